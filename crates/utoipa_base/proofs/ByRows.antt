@@ -1,0 +1,196 @@
+-- A table's rows, read and written.
+use Rattle.std.proofs.Common.{◌≡◌, ℕ, List, [], ◌∷◌, ◌++◌, Bool, true, false, Option, Some, None, option_map, option_and_then, refl, sym, ap, ◌∙◌, Bor, nat_cmp, is_some, String, Global, BTreeMap, Result, Ok, Err, IfErr, subst, Ordering, Less, Equal, Greater, cond}
+use Rattle.std.specs.Ordering.{match_ordering}
+use Rattle.std.specs.Cmp.Lexicographic.{slice_cmp}
+use Rattle.serde_json.specs.Data.{Data, null, boolean, number, string, array, object, Members, no_members, member, put}
+use Rattle.serde_json.specs.Find.{get, get_member, as_object, as_null}
+use Rattle.serde_json.specs.View.{view, members_view}
+use Rattle.serde_json.specs.declared.value.Value.{Value, Object, the_lemmas}
+use Rattle.serde_json.proofs.Views.{view-Object}
+use Rattle.std.specs.Result.{IsErrAnd}
+use Rattle.utoipa_base.specs.declared.fault.ReadFault.{ReadFault}
+use Rattle.utoipa_base.specs.declared.fault.ReadFault.TheVariants.{Memory, Fraction, Missing, Kind as no_kind, Word, Alternative, Text}
+use Rattle.utoipa_base.specs.Faults.{Refuses}
+use Rattle.utoipa_base.specs.Kinds.{ObjectType, Kind, named, Mark, required, optional, nullable, defaulted, Row}
+use Rattle.utoipa_base.specs.Docs.{Doc, none_doc, some_doc, table_doc, Docs, no_docs, doc, option_doc}
+use Rattle.utoipa_base.specs.Tables.{table, has_extensions, row}
+use Rattle.utoipa_base.specs.Extensions.{extensions_of, extensions_at, members_or_none}
+use Rattle.utoipa_base.specs.Reading.{reader, parts, part, fits, read, read_rows, both, is_null}
+use Rattle.utoipa_base.specs.Writing.{write, write_rows, is_empty, put_unless}
+use Rattle.utoipa_base.specs.Fields.{field, field_of, present, fields, put_field}
+
+pub field-row : (name : List ℕ) (m : Mark) (k : Kind) (d : Data) → field (row name m k) d ≡ field_of m k (get name d)
+unfolding field
+field-row name m k d = refl
+
+pub put_field-required : (name : List ℕ) (k : Kind) (d : Doc) (ms : Members) → put_field (row name required k) d ms ≡ put name (write d) ms
+unfolding put_field
+put_field-required name k d ms = refl
+
+pub put_field-null : (name : List ℕ) (k : Kind) (ms : Members) → put_field (row name nullable k) none_doc ms ≡ put name null ms
+unfolding put_field write
+put_field-null name k ms = refl
+
+pub put_field-there : (name : List ℕ) (k : Kind) (d : Doc) (ms : Members) → put_field (row name nullable k) (some_doc d) ms ≡ put name (write d) ms
+unfolding put_field write
+put_field-there name k d ms = refl
+
+pub put_field-none : (name : List ℕ) (k : Kind) (ms : Members) → put_field (row name optional k) none_doc ms ≡ ms
+unfolding put_field
+put_field-none name k ms = refl
+
+pub put_field-some : (name : List ℕ) (k : Kind) (d : Doc) (ms : Members) → put_field (row name optional k) (some_doc d) ms ≡ put name (write d) ms
+unfolding put_field write
+put_field-some name k d ms = refl
+
+pub null_as : (d : Data) → is_null d ≡ is_some (as_null d)
+null_as null = refl
+null_as (boolean b) = refl
+null_as (number n) = refl
+null_as (string s) = refl
+null_as (array ds) = refl
+null_as (object ms) = refl
+
+pub put_field-empty : (name : List ℕ) (k : Kind) (d : Doc) (ms : Members) → is_empty d ≡ true → put_field (row name defaulted k) d ms ≡ ms
+unfolding put_field
+put_field-empty name k d ms e = ap (λ b. put_unless b name (write d) ms) e
+
+pub put_field-full : (name : List ℕ) (k : Kind) (d : Doc) (ms : Members) → is_empty d ≡ false → put_field (row name defaulted k) d ms ≡ put name (write d) ms
+unfolding put_field
+put_field-full name k d ms e = ap (λ b. put_unless b name (write d) ms) e
+
+pub ruleset by_row = (put_field-null, put_field-there, put_field-empty, put_field-full, field-row, put_field-required, put_field-none, put_field-some, null_as)
+
+-- ---- a whole table
+
+from_part : (m : Mark) (k : Kind) (o : Option Data) → fits m k (option_map (λ d. (is_null d, reader d)) o) ≡ field_of m k o
+from_part required k None = refl
+from_part required k (Some d) = refl
+from_part optional k None = refl
+from_part optional k (Some d) = refl
+from_part nullable k None = refl
+from_part nullable k (Some d) = refl
+from_part defaulted k None = refl
+from_part defaulted k (Some d) = refl
+
+part_by : (o : Ordering) {A B : Type 0} (f : A → B) (a : A) (x : Option A) (y : Option B) → y ≡ option_map f x → match_ordering o y (Some (f a)) y ≡ option_map f (match_ordering o x (Some a) x)
+part_by Less f a x y e = e
+part_by Equal f a x y e = refl
+part_by Greater f a x y e = e
+
+part-parts : (name : List ℕ) (ms : Members) → part name (parts ms) ≡ option_map (λ d. (is_null d, reader d)) (get_member name ms)
+unfolding parts
+part-parts name no_members = refl
+part-parts name (member k d ms) = part_by (slice_cmp nat_cmp name k) (λ e. (is_null e, reader e)) d _ _ (part-parts name ms)
+
+rows_by_fields : (rs : List Row) (ms : Members) → read_rows rs (parts ms) ≡ fields rs (object ms)
+unfolding field fields
+rows_by_fields [] ms = refl
+rows_by_fields (r ∷ rs) ms = ap (λ x. both x (read_rows rs (parts ms))) (ap (fits r.mark r.kind) (part-parts r.name ms) ∙ from_part r.mark r.kind (get_member r.name ms))
+    ∙ ap (both (field_of r.mark r.kind (get_member r.name ms))) (rows_by_fields rs ms)
+
+pub read-named : (n : ObjectType) (d : Data) → is_some (as_object d) ≡ true → read (named n) d ≡ option_map (λ ds. table_doc n ds (extensions_at (has_extensions n) d)) (fields (table n) d)
+unfolding reader
+read-named n null e = cc
+read-named n (boolean b) e = cc
+read-named n (number x) e = cc
+read-named n (string s) e = cc
+read-named n (array ds) e = cc
+read-named n (object ms) e = ap (option_map (λ ds. table_doc n ds (extensions_of (has_extensions n) ms))) (rows_by_fields (table n) ms)
+
+pub read-no_object : (n : ObjectType) (d : Data) → is_some (as_object d) ≡ false → read (named n) d ≡ None
+unfolding reader
+read-no_object n null e = refl
+read-no_object n (boolean b) e = refl
+read-no_object n (number x) e = refl
+read-no_object n (string s) e = refl
+read-no_object n (array ds) e = refl
+read-no_object n (object ms) e = cc
+
+-- ---- the fields, one after the other
+
+pub fields-nil : (d : Data) → fields [] d ≡ Some no_docs
+unfolding fields
+fields-nil d = refl
+
+pub fields-fit : (r : Row) (rs : List Row) (d : Data) (x : Doc) (xs : Docs) → field r d ≡ Some x → fields rs d ≡ Some xs → fields (r ∷ rs) d ≡ Some (doc x xs)
+unfolding fields
+fields-fit r rs d x xs e f = rw (e, f)
+
+pub fields-first : (r : Row) (rs : List Row) (d : Data) → field r d ≡ None → fields (r ∷ rs) d ≡ None
+unfolding fields
+fields-first r rs d e = rw e
+
+later_none : (x : Option Doc) → both x None ≡ None
+later_none None = refl
+later_none (Some d) = refl
+
+pub fields-later : (r : Row) (rs : List Row) (d : Data) → fields rs d ≡ None → fields (r ∷ rs) d ≡ None
+unfolding fields
+fields-later r rs d e = rw e (later_none (field r d))
+
+pub table_fits : (n : ObjectType) (d : Data) (ds : Docs) (e : Option Members) → is_some (as_object d) ≡ true → fields (table n) d ≡ Some ds → e ≡ extensions_at (has_extensions n) d
+    → read (named n) d ≡ Some (table_doc n ds e)
+table_fits n d ds e is all ext = read-named n d is ∙ ap (option_map (λ es. table_doc n es (extensions_at (has_extensions n) d))) all ∙ ap (λ x. Some (table_doc n ds x)) (sym ext)
+
+table_refused_object : (n : ObjectType) (d : Data) → is_some (as_object d) ≡ true → fields (table n) d ≡ None → read (named n) d ≡ None
+table_refused_object n d is all = read-named n d is ∙ ap (option_map (λ es. table_doc n es (extensions_at (has_extensions n) d))) all
+
+table_refused_if : (b : Bool) (n : ObjectType) (d : Data) → is_some (as_object d) ≡ b → fields (table n) d ≡ None → read (named n) d ≡ None
+table_refused_if true n d is all = table_refused_object n d is all
+table_refused_if false n d is all = read-no_object n d is
+
+pub table_refused : (n : ObjectType) (d : Data) → fields (table n) d ≡ None → read (named n) d ≡ None
+table_refused n d all = table_refused_if _ n d refl all
+
+pub write-table : (n : ObjectType) (ds : Docs) (e : Option Members) → write (table_doc n ds e) ≡ object (write_rows ds (table n) (members_or_none e))
+unfolding write
+write-table n ds e = refl
+
+pub write_rows-nil : (rs : List Row) (ms : Members) → write_rows no_docs rs ms ≡ ms
+unfolding write_rows
+write_rows-nil rs ms = refl
+
+pub write_rows-cons : (d : Doc) (ds : Docs) (r : Row) (rs : List Row) (ms : Members) → write_rows (doc d ds) (r ∷ rs) ms ≡ write_rows ds rs (put_field r d ms)
+unfolding write_rows put_field
+write_rows-cons d ds r rs ms = refl
+
+pub ruleset by_table = (fields-nil, fields-fit, fields-first, fields-later, table_fits, table_refused, read-no_object)
+
+pub ruleset by_writing = (write-table, write_rows-nil, write_rows-cons, the_lemmas)
+
+pub no_extensions : (d : Data) → None ≡ extensions_at false d
+no_extensions null = refl
+no_extensions (boolean b) = refl
+no_extensions (number n) = refl
+no_extensions (string s) = refl
+no_extensions (array ds) = refl
+no_extensions (object ms) = refl
+
+-- ---- answers
+
+-- a fault that refuses one reading refuses another, which has no document where the first has none
+refuses_too : (o p : Option Doc) → (o ≡ None → p ≡ None) → (e : ReadFault) → Refuses o e → Refuses p e
+refuses_too o p h Memory r = tt
+refuses_too o p h Fraction r = r
+refuses_too o p h (Missing s) r = h r
+refuses_too o p h (no_kind s) r = h r
+refuses_too o p h (Word s) r = h r
+refuses_too o p h Alternative r = h r
+refuses_too o p h Text r = r
+
+-- what `?` passes on is the fault that it was handed
+pub passes_on : {T : Type 0} (r : Result T ReadFault) (e : ReadFault) (o p : Option Doc) → IsErrAnd r (λ f. f ≡ e) → Refuses o e → (o ≡ None → p ≡ None) → IfErr r (λ f. Refuses p f)
+passes_on (Ok v) e o p is refused h = tt
+passes_on (Err f) e o p is refused h = refuses_too o p h f (let Q : ReadFault → Type 0 = λ x. Refuses o x in subst Q (sym is) refused)
+
+pub rows-nil : (ms : Members) → write_rows no_docs [] ms ≡ ms
+unfolding write_rows
+rows-nil ms = refl
+
+pub rows-cons : (d : Doc) (ds : Docs) (r : Row) (rs : List Row) (start next ms : Members) → next ≡ put_field r d start → write_rows ds rs next ≡ ms → write_rows (doc d ds) (r ∷ rs) start ≡ ms
+rows-cons d ds r rs start next ms is later = write_rows-cons d ds r rs start ∙ ap (write_rows ds rs) (sym is) ∙ later
+
+pub table_written : (n : ObjectType) (ds : Docs) (e : Option Members) (m : BTreeMap (String Global) Value) (start : Members) → start ≡ members_or_none e → write_rows ds (table n) start ≡ members_view m.entries
+    → view (Object m) ≡ write (table_doc n ds e)
+table_written n ds e m start is all = view-Object m ∙ ap object (sym all ∙ ap (write_rows ds (table n)) is) ∙ sym (write-table n ds e)

@@ -1,0 +1,174 @@
+-- Members under distinct names have together fewer values than their object, and one more document at the end of a list adds its places.
+use Rattle.std.proofs.Common.{◌≡◌, ℕ, ◌+◌, ◌<◌, ◌≤◌, suc, List, [], ◌∷◌, ◌++◌, Bool, true, false, Option, Some, None, refl, sym, ap, ◌∙◌, subst, true≢false, nat_cmp, Ordering, Less, Equal, Greater, arith, drop, drop-cons, add-one, length, get_or}
+use Rattle.std.proofs.lemmas.Slice.Eq.{bytes_eq-Decides}
+use Rattle.std.proofs.lemmas.Cmp.{nat_list_cmp_total, tied_itself}
+use Rattle.std.proofs.lemmas.Map.Text.{is_eq-slice_cmp}
+use Rattle.std.specs.Ordering.{is_eq, match_ordering}
+use Rattle.std.specs.Cmp.Lexicographic.{slice_cmp}
+use Rattle.std.specs.Str.{bytes_eq}
+use Rattle.serde_json.specs.Data.{Data, null, boolean, number, string, array, object, Items, Members, no_members, member}
+use Rattle.serde_json.specs.Find.{get, get_member, as_array, as_object}
+use Rattle.serde_json.specs.View.{view, items_view, members_view}
+use Rattle.serde_json.specs.declared.value.Value.{Value}
+use Rattle.serde_json.proofs.Views.{Entry}
+use Rattle.utoipa_base.specs.Kinds.{ObjectType, Row}
+use Rattle.utoipa_base.specs.Tables.{table}
+use Rattle.utoipa_base.specs.Docs.{Doc, docs_of, entries_of_list}
+use Rattle.utoipa_base.specs.Values.{values, items_values, members_values, values_of, rows_values, schema_places, docs_places, entries_places}
+use Rattle.utoipa_base.proofs.Tests.{and_first, and_second, not_true, or_first, or_second, apart}
+use Rattle.utoipa_base.proofs.TableNames.{is_named, names_apart, table_names}
+
+-- ---- a member under another name, and under this one
+
+-- what is not equal goes on with the rest
+either : (o : Ordering) (a b : Option Data) → is_eq o ≡ false → match_ordering o a b a ≡ a
+either Less a b e = refl
+either Equal a b e = absurd (true≢false e)
+either Greater a b e = refl
+
+-- the test tells texts apart that are not one text
+differ : (xs ys : List ℕ) (b : Bool) → bytes_eq xs ys ≡ b → (xs ≡ ys → ⊥) → b ≡ false
+differ xs ys true e other = absurd (other ((bytes_eq-Decides xs ys).0 e))
+differ xs ys false e other = refl
+
+-- a member under another name is passed over
+get_member-skip : (q k : List ℕ) (d : Data) (ms : Members) → (q ≡ k → ⊥) → get_member q (member k d ms) ≡ get_member q ms
+get_member-skip q k d ms other = either (slice_cmp nat_cmp q k) _ _ (is_eq-slice_cmp q k ∙ differ q k _ refl other)
+
+-- a member under this name is found
+get_member-here : (q k : List ℕ) (d : Data) (ms : Members) → q ≡ k → get_member q (member k d ms) ≡ Some d
+get_member-here q k d ms same = rw (same, tied_itself nat_list_cmp_total k)
+
+-- ---- the members that rows name
+
+-- the values of the rows' members among members
+abbrev sum_at : List Row → Members → ℕ
+sum_at [] ms = 0
+sum_at (r ∷ rs) ms = values_of (get_member r.name ms) + sum_at rs ms
+
+-- a member under none of the names adds nothing
+sum_at-skip : (rs : List Row) (k : List ℕ) (d : Data) (ms : Members) → is_named k rs ≡ false → sum_at rs (member k d ms) ≡ sum_at rs ms
+sum_at-skip [] k d ms h = refl
+sum_at-skip (r ∷ rs) k d ms h =
+    let other : r.name ≡ k → ⊥ = λ same. apart k r.name (or_first _ _ h) (sym same) in
+    ap (λ o. values_of o + sum_at rs (member k d ms)) (get_member-skip r.name k d ms other) ∙ ap (λ n. values_of (get_member r.name ms) + n) (sum_at-skip rs k d ms (or_second _ _ h))
+
+-- one more member adds no more than its values, by whether the first row names it
+sum_at-member_by : (b : Bool) (r : Row) (rs : List Row) (k : List ℕ) (d : Data) (ms : Members) → bytes_eq r.name k ≡ b → is_named r.name rs ≡ false → sum_at rs (member k d ms) ≤ values d + sum_at rs ms
+    → sum_at (r ∷ rs) (member k d ms) ≤ values d + sum_at (r ∷ rs) ms
+unfolding values_of
+sum_at-member_by true r rs k d ms is other later =
+    let same : r.name ≡ k = (bytes_eq-Decides r.name k).0 is in
+    let here : values_of (get_member r.name (member k d ms)) ≡ values d = ap values_of (get_member-here r.name k d ms same) in
+    let rest : sum_at rs (member k d ms) ≡ sum_at rs ms = sum_at-skip rs k d ms (subst (λ n. is_named n rs ≡ false) same other) in
+    omega (arith, here, rest)
+sum_at-member_by false r rs k d ms is other later =
+    let skip : values_of (get_member r.name (member k d ms)) ≡ values_of (get_member r.name ms) = ap values_of (get_member-skip r.name k d ms (apart r.name k is)) in
+    omega (arith, skip, later)
+
+-- one more member adds no more than its values
+sum_at-member : (rs : List Row) (k : List ℕ) (d : Data) (ms : Members) → names_apart rs ≡ true → sum_at rs (member k d ms) ≤ values d + sum_at rs ms
+sum_at-member [] k d ms h = omega arith
+sum_at-member (r ∷ rs) k d ms h =
+    let rest = and_second _ _ h in
+    sum_at-member_by _ r rs k d ms refl (not_true _ (and_first _ _ rest)) (sum_at-member rs k d ms (and_second _ _ rest))
+
+-- no members have no values
+sum_at-none : (rs : List Row) → sum_at rs no_members ≡ 0
+unfolding values_of
+sum_at-none [] = refl
+sum_at-none (r ∷ rs) = omega (arith, sum_at-none rs)
+
+-- the members that rows name have no more values than all members
+sum_at-le : (rs : List Row) (ms : Members) → names_apart rs ≡ true → sum_at rs ms ≤ members_values ms
+unfolding members_values
+sum_at-le rs no_members h = omega (arith, sum_at-none rs)
+sum_at-le rs (member k d ms) h = omega (arith, sum_at-member rs k d ms h, sum_at-le rs ms h)
+
+-- a tree with no members has no values under the rows' names
+rows_values-none : (rs : List Row) (d : Data) → ((k : List ℕ) → get k d ≡ None) → rows_values rs d ≡ 0
+unfolding values_of
+rows_values-none [] d h = refl
+rows_values-none (r ∷ rs) d h =
+    let first : values_of (get r.name d) ≡ 0 = ap values_of (h r.name) in
+    omega (arith, first, rows_values-none rs d h)
+
+-- the values of the rows' members in an object are those among its members
+rows_values-object : (rs : List Row) (ms : Members) → rows_values rs (object ms) ≡ sum_at rs ms
+rows_values-object [] ms = refl
+rows_values-object (r ∷ rs) ms = ap (λ n. values_of (get_member r.name ms) + n) (rows_values-object rs ms)
+
+-- members under distinct names have together fewer values than their object
+pub rows_fewer : (rs : List Row) (d : Data) → names_apart rs ≡ true → rows_values rs d < values d
+unfolding values
+rows_fewer rs null h = omega (arith, rows_values-none rs null (λ k. refl))
+rows_fewer rs (boolean b) h = omega (arith, rows_values-none rs (boolean b) (λ k. refl))
+rows_fewer rs (number x) h = omega (arith, rows_values-none rs (number x) (λ k. refl))
+rows_fewer rs (string s) h = omega (arith, rows_values-none rs (string s) (λ k. refl))
+rows_fewer rs (array ds) h = omega (arith, rows_values-none rs (array ds) (λ k. refl))
+rows_fewer rs (object ms) h = omega (arith, rows_values-object rs ms, sum_at-le rs ms h)
+
+-- the members of a table's rows have no more values than their object
+pub table_values : (n : ObjectType) (d : Data) → rows_values (table n) d ≤ values d
+table_values n d = omega (arith, rows_fewer (table n) d (table_names n))
+
+-- ---- the items and members of a value
+
+-- the values of a list are those of its first item and of the rest
+pub items_values-cons : (v : Value) (vs : List Value) → items_values (items_view (v ∷ vs)) ≡ values (view v) + items_values (items_view vs)
+unfolding items_values
+items_values-cons v vs = refl
+
+-- the values of the items that are left are those of the next and of the rest
+pub items_values-drop : (xs : List Value) (i : ℕ) (x : Value) → i < length xs → x ≡ get_or xs i x
+    → items_values (items_view (drop i xs)) ≡ values (view x) + items_values (items_view (drop (i + 1) xs))
+items_values-drop xs i x within is =
+    let here : drop i xs ≡ x ∷ drop (i + 1) xs = rw (add-one, drop-cons xs i x) (ap (λ y. y ∷ drop (suc i) xs) (sym is)) in
+    ap (λ vs. items_values (items_view vs)) here ∙ items_values-cons x (drop (i + 1) xs)
+
+-- an array has more values than its items
+pub array_values : (d : Data) (ds : Items) → Some ds ≡ as_array d → items_values ds < values d
+unfolding values
+array_values null ds e = cc
+array_values (boolean b) ds e = cc
+array_values (number n) ds e = cc
+array_values (string s) ds e = cc
+array_values (array es) ds e = let same : items_values ds ≡ items_values es = (let q : ds ≡ es = cc in ap items_values q) in omega (arith, same)
+array_values (object ms) ds e = cc
+
+-- the values of an object are those of its first member and of the rest
+pub members_values-cons : (e : Entry) (es : List Entry) → members_values (members_view (e ∷ es)) ≡ values (view e.1) + members_values (members_view es)
+unfolding members_values
+members_values-cons e es = refl
+
+-- an object has more values than its members
+pub object_values : (d : Data) (ms : Members) → Some ms ≡ as_object d → members_values ms < values d
+unfolding values
+object_values null ms e = cc
+object_values (boolean b) ms e = cc
+object_values (number n) ms e = cc
+object_values (string s) ms e = cc
+object_values (array es) ms e = cc
+object_values (object ns) ms e = let same : members_values ms ≡ members_values ns = (let q : ms ≡ ns = cc in ap members_values q) in omega (arith, same)
+
+-- the values of a member that is there are its own
+pub values_of-some : (o : Option Data) (d : Data) → Some d ≡ o → values_of o ≡ values d
+unfolding values_of
+values_of-some o d e = ap values_of (sym e)
+
+-- what counts the values of a member
+pub ruleset counts = (values_of-some)
+
+-- ---- the places of a list of documents
+
+-- one more document at the end adds its places
+pub docs_places-last : (ds : List Doc) (d : Doc) → docs_places (docs_of (ds ++ d ∷ [])) ≡ docs_places (docs_of ds) + schema_places d
+unfolding docs_places
+docs_places-last [] d = omega arith
+docs_places-last (e ∷ ds) d = omega (arith, docs_places-last ds d)
+
+-- one more entry at the end adds its places
+pub entries_places-last : (es : List (List ℕ × Doc)) (e : List ℕ × Doc) → entries_places (entries_of_list (es ++ e ∷ [])) ≡ entries_places (entries_of_list es) + schema_places e.1
+unfolding entries_places
+entries_places-last [] e = omega arith
+entries_places-last (x ∷ es) e = omega (arith, entries_places-last es e)

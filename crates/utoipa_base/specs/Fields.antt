@@ -1,0 +1,36 @@
+-- A field of an object by the row of its member, as it is read and as it is written.
+use Rattle.std.specs.Prelude.{ℕ, List, [], ◌∷◌, Bool, true, false, Option, None, Some, option_map, if◌then◌else◌}
+use Rattle.serde_json.specs.Data.{Data, Members}
+use Rattle.serde_json.specs.Find.{get}
+use Rattle.utoipa_base.specs.Kinds.{Kind, Mark, required, optional, nullable, defaulted, Row}
+use Rattle.utoipa_base.specs.Docs.{Doc, none_doc, some_doc, Docs, no_docs}
+use Rattle.utoipa_base.specs.Reading.{read, is_null, empty_doc, both}
+use Rattle.utoipa_base.specs.Writing.{write, put_row}
+
+-- the field of a row, where the object has this member at the row's name
+abbrev pub field_of : Mark → Kind → Option Data → Option Doc
+field_of required k None = None
+field_of required k (Some d) = read k d
+field_of optional k None = Some none_doc
+field_of optional k (Some d) = if is_null d then Some none_doc else option_map some_doc (read k d)
+field_of nullable k None = Some none_doc
+field_of nullable k (Some d) = if is_null d then Some none_doc else option_map some_doc (read k d)
+field_of defaulted k None = Some (empty_doc k)
+field_of defaulted k (Some d) = read k d
+
+-- the field of a row in an object
+unfoldable pub field : Row → Data → Option Doc
+field r d = field_of r.mark r.kind (get r.name d)
+
+-- a member that may be absent, where null is a value like any other
+unfoldable pub present : List ℕ → Kind → Data → Option Doc
+present name k d = elim (get name d) [ None ↦ Some none_doc | Some e ↦ option_map some_doc (read k e) ]
+
+-- the fields of a table's rows
+unfoldable pub fields : List Row → Data → Option Docs
+fields [] d = Some no_docs
+fields (r ∷ rs) d = both (field r d) (fields rs d)
+
+-- the members, with a row's field written
+unfoldable pub put_field : Row → Doc → Members → Members
+put_field r d ms = put_row r d (write d) ms

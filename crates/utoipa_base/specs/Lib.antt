@@ -1,0 +1,17 @@
+pub mod Kinds
+pub mod Words
+pub mod Version
+pub mod Choices
+pub mod Docs
+pub mod Tables
+pub mod Extensions
+pub mod Reading
+pub mod Writing
+pub mod Settled
+pub mod Shape
+pub mod Tidy
+pub mod Values
+pub mod Fields
+pub mod Faults
+pub mod Views
+pub mod Refs

@@ -1,0 +1,104 @@
+-- Which documents are plain, and which are tidy: those that read back from their own tree.
+use Rattle.std.specs.Prelude.{◌≡◌, ◌||◌, ◌&&◌, ℕ, List, [], ◌∷◌, Bool, true, false, not, Option, None, Some, option_and_then, is_none, codes}
+use Rattle.serde_json.specs.Data.{Data, Members, no_members, member}
+use Rattle.serde_json.specs.Find.{get, as_str}
+use Rattle.serde_json.specs.Written.{has_float, members_have_float}
+use Rattle.utoipa_base.specs.Kinds.{ObjectType}
+use Rattle.utoipa_base.specs.Choices.{chosen, flow_keys}
+use Rattle.utoipa_base.specs.Docs.{Doc, text_doc, flag_doc, whole_doc, int_doc, uint_doc, tree_doc, word_doc, custom_doc, types_doc, any_value_doc, none_doc, some_doc, ref_doc, own_doc, schema_doc, tagged_doc, flow_doc, list_doc, map_doc, entries_doc, table_doc, Docs, no_docs, doc, Entries, no_entries, entry}
+use Rattle.utoipa_base.specs.Extensions.{is_extension, all_extensions, members_or_none}
+use Rattle.utoipa_base.specs.Writing.{write}
+
+-- ---- plain
+
+-- whether a tree in the document holds a fraction: a number that is neither an i64 nor a u64
+unfoldable mutual
+  pub has_fraction : Doc → Bool
+  has_fraction (text_doc s) = false
+  has_fraction (flag_doc b) = false
+  has_fraction (whole_doc n) = false
+  has_fraction (int_doc z) = false
+  has_fraction (uint_doc n) = false
+  has_fraction (tree_doc d) = has_float d
+  has_fraction (word_doc s) = false
+  has_fraction (custom_doc s) = false
+  has_fraction (types_doc d) = has_fraction d
+  has_fraction any_value_doc = false
+  has_fraction none_doc = false
+  has_fraction (some_doc d) = has_fraction d
+  has_fraction (ref_doc k d) = has_fraction d
+  has_fraction (own_doc d) = has_fraction d
+  has_fraction (schema_doc d) = has_fraction d
+  has_fraction (tagged_doc name word d) = has_fraction d
+  has_fraction (flow_doc d) = has_fraction d
+  has_fraction (list_doc ds) = docs_have_fraction ds
+  has_fraction (map_doc es) = entries_have_fraction es
+  has_fraction (entries_doc es e) = entries_have_fraction es || members_have_float (members_or_none e)
+  has_fraction (table_doc n ds e) = docs_have_fraction ds || members_have_float (members_or_none e)
+
+  pub docs_have_fraction : Docs → Bool
+  docs_have_fraction no_docs = false
+  docs_have_fraction (doc d ds) = has_fraction d || docs_have_fraction ds
+
+  pub entries_have_fraction : Entries → Bool
+  entries_have_fraction no_entries = false
+  entries_have_fraction (entry k d es) = has_fraction d || entries_have_fraction es
+
+abbrev pub IsPlain : Doc → Type 0
+IsPlain d = has_fraction d ≡ false
+
+-- ---- tidy
+
+-- each extension's name begins `x-`
+abbrev pub AllExtensions : Option Members → Type 0
+AllExtensions e = all_extensions (members_or_none e) ≡ true
+
+-- no name of an entry begins `x-`
+abbrev pub no_extension : Entries → Bool
+no_extension no_entries = true
+no_extension (entry k d es) = not (is_extension k) && no_extension es
+
+-- a flow stands under its own key
+abbrev pub KeyOf : List ℕ → Doc → Type 0
+KeyOf key (flow_doc (table_doc n ds e)) = chosen key flow_keys ≡ Some n
+KeyOf key d = Unit {0}
+
+-- the tree has no text at `$ref`, so it is no reference
+abbrev pub IsNoReference : Data → Type 0
+IsNoReference t = option_and_then as_str (get (codes "$ref") t) ≡ None
+
+unfoldable mutual
+  pub IsTidyInside : Doc → Type 0
+  IsTidyInside (text_doc s) = Unit {0}
+  IsTidyInside (flag_doc b) = Unit {0}
+  IsTidyInside (whole_doc n) = Unit {0}
+  IsTidyInside (int_doc z) = Unit {0}
+  IsTidyInside (uint_doc n) = Unit {0}
+  IsTidyInside (tree_doc d) = Unit {0}
+  IsTidyInside (word_doc s) = Unit {0}
+  IsTidyInside (custom_doc s) = Unit {0}
+  IsTidyInside (types_doc d) = IsTidyInside d
+  IsTidyInside any_value_doc = Unit {0}
+  IsTidyInside none_doc = Unit {0}
+  IsTidyInside (some_doc d) = IsTidyInside d
+  IsTidyInside (ref_doc k d) = IsTidyInside d
+  IsTidyInside (own_doc d) = IsTidyInside d × IsNoReference (write d)
+  IsTidyInside (schema_doc d) = IsTidyInside d
+  IsTidyInside (tagged_doc name word d) = IsTidyInside d
+  IsTidyInside (flow_doc d) = IsTidyInside d
+  IsTidyInside (list_doc ds) = AreTidyInside ds
+  IsTidyInside (map_doc es) = AreTidyEntries es
+  IsTidyInside (entries_doc es e) = AreTidyEntries es × (no_extension es ≡ true) × AllExtensions e
+  IsTidyInside (table_doc n ds e) = AreTidyInside ds × AllExtensions e
+
+  pub AreTidyInside : Docs → Type 0
+  AreTidyInside no_docs = Unit {0}
+  AreTidyInside (doc d ds) = IsTidyInside d × AreTidyInside ds
+
+  pub AreTidyEntries : Entries → Type 0
+  AreTidyEntries no_entries = Unit {0}
+  AreTidyEntries (entry key d es) = IsTidyInside d × KeyOf key d × AreTidyEntries es
+
+-- plain, and tidy at every place
+abbrev pub IsTidy : Doc → Type 0
+IsTidy d = IsPlain d × IsTidyInside d

@@ -1,0 +1,82 @@
+-- How many values a tree has, and how many schemas a document.
+use Rattle.std.specs.Prelude.{ℕ, ◌+◌, List, [], ◌∷◌, Bool, true, false, Option, None, Some}
+use Rattle.serde_json.specs.Data.{Data, null, boolean, number, string, array, object, Items, no_items, item, Members, no_members, member}
+use Rattle.serde_json.specs.Find.{get}
+use Rattle.utoipa_base.specs.Kinds.{Kind, schema, Row}
+use Rattle.utoipa_base.specs.Docs.{Doc, text_doc, flag_doc, whole_doc, int_doc, uint_doc, tree_doc, word_doc, custom_doc, types_doc, any_value_doc, none_doc, some_doc, ref_doc, own_doc, schema_doc, tagged_doc, flow_doc, list_doc, map_doc, entries_doc, table_doc, Docs, no_docs, doc, Entries, no_entries, entry}
+
+-- ---- the values of a tree: one for itself, and those of its elements or members
+
+unfoldable mutual
+  pub values : Data → ℕ
+  values null = 1
+  values (boolean b) = 1
+  values (number n) = 1
+  values (string s) = 1
+  values (array ds) = 1 + items_values ds
+  values (object ms) = 1 + members_values ms
+
+  pub items_values : Items → ℕ
+  items_values no_items = 0
+  items_values (item d ds) = values d + items_values ds
+
+  pub members_values : Members → ℕ
+  members_values no_members = 0
+  members_values (member k d ms) = values d + members_values ms
+
+-- the values of a member, if it is there
+unfoldable pub values_of : Option Data → ℕ
+values_of None = 0
+values_of (Some d) = values d
+
+abbrev pub values_at : List ℕ → Data → ℕ
+values_at name d = values_of (get name d)
+
+-- the values of the rows' members
+abbrev pub rows_values : List Row → Data → ℕ
+rows_values [] d = 0
+rows_values (r ∷ rs) d = values_of (get r.name d) + rows_values rs d
+
+-- ---- the schema places of a document: schemas, and references in the place of one
+
+-- how many schema places a reference is, in the place of a kind
+abbrev pub reference_places : Kind → ℕ
+reference_places schema = 1
+reference_places k = 0
+
+unfoldable mutual
+  pub schema_places : Doc → ℕ
+  schema_places (text_doc s) = 0
+  schema_places (flag_doc b) = 0
+  schema_places (whole_doc n) = 0
+  schema_places (int_doc z) = 0
+  schema_places (uint_doc n) = 0
+  schema_places (tree_doc d) = 0
+  schema_places (word_doc s) = 0
+  schema_places (custom_doc s) = 0
+  schema_places (types_doc d) = 0
+  schema_places any_value_doc = 0
+  schema_places none_doc = 0
+  schema_places (some_doc d) = schema_places d
+  schema_places (ref_doc k d) = reference_places k
+  schema_places (own_doc d) = schema_places d
+  schema_places (schema_doc d) = 1 + schema_places d
+  schema_places (tagged_doc name word d) = schema_places d
+  schema_places (flow_doc d) = schema_places d
+  schema_places (list_doc ds) = docs_places ds
+  schema_places (map_doc es) = entries_places es
+  schema_places (entries_doc es e) = entries_places es
+  schema_places (table_doc n ds e) = docs_places ds
+
+  pub docs_places : Docs → ℕ
+  docs_places no_docs = 0
+  docs_places (doc d ds) = schema_places d + docs_places ds
+
+  pub entries_places : Entries → ℕ
+  entries_places no_entries = 0
+  entries_places (entry k d es) = schema_places d + entries_places es
+
+-- whether a place of the kind is a schema's
+abbrev pub is_schema : Kind → Bool
+is_schema schema = true
+is_schema k = false

@@ -1,0 +1,26 @@
+-- The documents of texts, options, lists and maps.
+use Rattle.std.specs.Prelude.{ℕ, List, Option, option_map, map, String, string_bytes, Vec}
+use Rattle.std.specs.BTreeMap.{BTreeMap}
+use Rattle.std.specs.declared.alloc.Global.{Global}
+use Rattle.serde_json.specs.View.{view}
+use Rattle.serde_json.specs.declared.value.Value.{Value}
+use Rattle.utoipa_base.specs.Docs.{Doc, text_doc, tree_doc, list_doc, map_doc, docs_of, entries_of_list, option_doc}
+
+abbrev pub text_of : String Global → Doc
+text_of s = text_doc (string_bytes s)
+
+abbrev pub tree_of : Value → Doc
+tree_of v = tree_doc (view v)
+
+abbrev pub option_of : {X : Type 0} → (X → Doc) → Option X → Doc
+option_of f o = option_doc (option_map f o)
+
+abbrev pub list_of_docs : {X : Type 0} → (X → Doc) → Vec X Global → Doc
+list_of_docs f v = list_doc (docs_of (map f v.items))
+
+-- a map's entries, each with its document
+abbrev pub pairs_of : {X : Type 0} → (X → Doc) → List (String Global × X) → List (List ℕ × Doc)
+pairs_of f es = map (λ e. (string_bytes e.0, f e.1)) es
+
+abbrev pub map_of_docs : {X : Type 0} → (X → Doc) → BTreeMap (String Global) X → Doc
+map_of_docs f m = map_doc (entries_of_list (pairs_of f m.entries))

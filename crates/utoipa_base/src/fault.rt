@@ -1,0 +1,47 @@
+ghost use Rattle.std.specs.Prelude.{◌≡◌};
+ghost use Rattle.utoipa_base.specs.declared.fault.ReadFault.TheVariants.{Memory};
+
+use std::alloc::{AllocError, AllocFailed};
+use thiserror::Error;
+
+/// Why a tree or a text was refused as a document.
+#[derive(Debug, Drop, Error)]
+pub enum ReadFault {
+    /// A request for memory was refused.
+    #[error("out of memory")]
+    Memory,
+    /// The tree holds a fraction: a number that is neither an `i64` nor a `u64`, as `0.5` and `1.0` are.
+    #[error("a number is neither an i64 nor a u64")]
+    Fraction,
+    /// A required member, of this name, is absent.
+    #[error("the member {0} is missing")]
+    Missing(&'static str),
+    /// A value of another kind or range stands where this was wanted.
+    #[error("no {0} stands here")]
+    Kind(&'static str),
+    /// A text is none of the words of this type.
+    #[error("no word of {0}")]
+    Word(&'static str),
+    /// No alternative of a choice fits.
+    #[error("no alternative fits")]
+    Alternative,
+    /// The text is no JSON text, or no UTF-8.
+    #[error("no JSON text")]
+    Text,
+}
+
+impl From<AllocError> for ReadFault {
+    ghost from_gives = { λ _ fault. fault ≡ Memory };
+
+    fn from(_error: AllocError) -> ReadFault {
+        ReadFault::Memory
+    }
+}
+
+impl<T: Drop> From<AllocFailed<T>> for ReadFault {
+    ghost from_gives = { λ _ fault. fault ≡ Memory };
+
+    fn from(_error: AllocFailed<T>) -> ReadFault {
+        ReadFault::Memory
+    }
+}
