@@ -59,7 +59,16 @@ pub put_field-full : (name : List ℕ) (k : Kind) (d : Doc) (ms : Members) → i
 unfolding put_field
 put_field-full name k d ms e = ap (λ b. put_unless b name (write d) ms) e
 
-pub ruleset by_row = (put_field-null, put_field-there, put_field-empty, put_field-full, field-row, put_field-required, put_field-none, put_field-some, null_as)
+-- a member that may be absent, by what stands at its name
+abbrev pub present_at : Kind → Option Data → Option Doc
+present_at k None = Some none_doc
+present_at k (Some d) = option_map some_doc (read k d)
+
+pub present-at : (name : List ℕ) (k : Kind) (d : Data) → present name k d ≡ present_at k (get name d)
+unfolding present
+present-at name k d = elim (get name d) as (λ o. elim o [ None ↦ Some none_doc | Some e ↦ option_map some_doc (read k e) ] ≡ present_at k o) [ None ↦ refl | Some e ↦ refl ]
+
+pub ruleset by_row = (present-at, put_field-null, put_field-there, put_field-empty, put_field-full, field-row, put_field-required, put_field-none, put_field-some, null_as)
 
 -- ---- a whole table
 

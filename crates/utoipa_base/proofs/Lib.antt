@@ -5,3 +5,10 @@ pub mod ByKind
 pub mod Maps
 pub mod ByRows
 pub mod Places
+pub mod Results
+pub mod WrittenMembers
+pub mod Alternatives
+pub mod ReadsBack
+pub mod Plain
+pub mod Twice
+pub mod WhatIsRead

@@ -1,57 +1,106 @@
--- What the member tables keep: the names of a table are distinct, and none begins `x-`.
-use Rattle.std.proofs.Common.{◌≡◌, ℕ, List, [], ◌∷◌, Bool, true, not, ◌&&◌, refl}
-use Rattle.std.specs.List.{list_any}
+-- The names of the tables' rows: each once, none an extension's.
+use Rattle.std.proofs.Common.{◌≡◌, ℕ, List, [], ◌∷◌, Bool, true, false, not, ◌&&◌, ◌||◌, refl}
 use Rattle.std.specs.Str.{bytes_eq}
-use Rattle.utoipa_base.specs.Kinds.{ObjectType, open_api_object, info_object, contact_object, license_object, server_object, server_variable_object, components_object, path_item_object, operation_object, external_docs_object, parameter_object, request_body_object, media_type_object, encoding_object, response_object, example_object, link_object, header_object, tag_object, reference_object, discriminator_object, xml_object, one_of_schema, all_of_schema, any_of_schema, array_schema, object_schema, api_key_scheme, http_scheme, open_id_connect_scheme, mutual_tls_scheme, oauth2_scheme, implicit_flow, password_flow, client_credentials_flow, authorization_code_flow, device_authorization_flow, scopes_object, Row}
+use Rattle.utoipa_base.specs.Kinds.{ObjectType, open_api_object, info_object, contact_object, license_object, server_object, server_variable_object, components_object, path_item_object, operation_object, external_docs_object, parameter_object, request_body_object, media_type_object, encoding_object, response_object, example_object, link_object, header_object, tag_object, reference_object, discriminator_object, xml_object, one_of_schema, all_of_schema, any_of_schema, array_schema, object_schema, api_key_scheme, http_scheme, open_id_connect_scheme, mutual_tls_scheme, oauth2_scheme, implicit_flow, password_flow, client_credentials_flow, authorization_code_flow, device_authorization_flow, scopes_object, Kind, text, flag, list_of, map_of, schema_type, Mark, required, defaulted, Row}
 use Rattle.utoipa_base.specs.Tables.{table}
 use Rattle.utoipa_base.specs.Extensions.{is_extension}
+use Rattle.utoipa_base.proofs.Tests.{and_first, and_second, not_true}
 
--- whether a row has the name
-abbrev pub is_named : List ℕ → List Row → Bool
-is_named name rs = list_any (λ r. bytes_eq name r.name) rs
+-- whether a row has this name
+abbrev pub is_row : List ℕ → List Row → Bool
+is_row name [] = false
+is_row name (r ∷ rs) = bytes_eq name r.name || is_row name rs
 
--- whether the rows' names are distinct, and none begins `x-`
-abbrev pub names_apart : List Row → Bool
-names_apart [] = true
-names_apart (r ∷ rs) = not (is_extension r.name) && (not (is_named r.name rs) && names_apart rs)
+-- whether a member of this name has to be there
+abbrev pub is_required : Mark → Bool
+is_required required = true
+is_required m = false
 
--- the names of each table are distinct, and none begins `x-`
-pub table_names : (n : ObjectType) → names_apart (table n) ≡ true
-table_names open_api_object = refl
-table_names info_object = refl
-table_names contact_object = refl
-table_names license_object = refl
-table_names server_object = refl
-table_names server_variable_object = refl
-table_names components_object = refl
-table_names path_item_object = refl
-table_names operation_object = refl
-table_names external_docs_object = refl
-table_names parameter_object = refl
-table_names request_body_object = refl
-table_names media_type_object = refl
-table_names encoding_object = refl
-table_names response_object = refl
-table_names example_object = refl
-table_names link_object = refl
-table_names header_object = refl
-table_names tag_object = refl
-table_names reference_object = refl
-table_names discriminator_object = refl
-table_names xml_object = refl
-table_names one_of_schema = refl
-table_names all_of_schema = refl
-table_names any_of_schema = refl
-table_names array_schema = refl
-table_names object_schema = refl
-table_names api_key_scheme = refl
-table_names http_scheme = refl
-table_names open_id_connect_scheme = refl
-table_names mutual_tls_scheme = refl
-table_names oauth2_scheme = refl
-table_names implicit_flow = refl
-table_names password_flow = refl
-table_names client_credentials_flow = refl
-table_names authorization_code_flow = refl
-table_names device_authorization_flow = refl
-table_names scopes_object = refl
+-- whether a member of this name has to be there for the rows
+abbrev pub is_wanted : List ℕ → List Row → Bool
+is_wanted name [] = false
+is_wanted name (r ∷ rs) = is_required r.mark && bytes_eq name r.name || is_wanted name rs
+
+-- whether an empty document of the kind is what an absent member reads as
+abbrev pub has_empty : Kind → Bool
+has_empty text = true
+has_empty flag = true
+has_empty (list_of k) = true
+has_empty (map_of k) = true
+has_empty schema_type = true
+has_empty k = false
+
+-- whether a row with this mark may have a field of this kind
+abbrev pub may_be_empty : Mark → Kind → Bool
+may_be_empty defaulted k = has_empty k
+may_be_empty m k = true
+
+-- whether no name is an extension's, none stands twice, and each defaulted row has an empty document
+abbrev pub are_apart : List Row → Bool
+are_apart [] = true
+are_apart (r ∷ rs) = not (is_extension r.name) && (not (is_row r.name rs) && (may_be_empty r.mark r.kind && are_apart rs))
+
+-- the first row's name is no extension's
+pub first_plain : (r : Row) (rs : List Row) → are_apart (r ∷ rs) ≡ true → is_extension r.name ≡ false
+first_plain r rs h = not_true _ (and_first (not (is_extension r.name)) (not (is_row r.name rs) && (may_be_empty r.mark r.kind && are_apart rs)) h)
+
+-- what else holds of the first row
+after_plain : (r : Row) (rs : List Row) → are_apart (r ∷ rs) ≡ true → not (is_row r.name rs) && (may_be_empty r.mark r.kind && are_apart rs) ≡ true
+after_plain r rs h = and_second (not (is_extension r.name)) _ h
+
+-- the first row's name is no other's
+pub first_once : (r : Row) (rs : List Row) → are_apart (r ∷ rs) ≡ true → is_row r.name rs ≡ false
+first_once r rs h = not_true _ (and_first (not (is_row r.name rs)) (may_be_empty r.mark r.kind && are_apart rs) (after_plain r rs h))
+
+-- what still holds of the first row
+after_once : (r : Row) (rs : List Row) → are_apart (r ∷ rs) ≡ true → may_be_empty r.mark r.kind && are_apart rs ≡ true
+after_once r rs h = and_second (not (is_row r.name rs)) _ (after_plain r rs h)
+
+-- the first row has an empty document, if it is defaulted
+pub first_empty : (r : Row) (rs : List Row) → are_apart (r ∷ rs) ≡ true → may_be_empty r.mark r.kind ≡ true
+first_empty r rs h = and_first (may_be_empty r.mark r.kind) (are_apart rs) (after_once r rs h)
+
+-- the other rows are apart too
+pub others_apart : (r : Row) (rs : List Row) → are_apart (r ∷ rs) ≡ true → are_apart rs ≡ true
+others_apart r rs h = and_second (may_be_empty r.mark r.kind) (are_apart rs) (after_once r rs h)
+
+-- so it is in each table
+pub table_apart : (n : ObjectType) → are_apart (table n) ≡ true
+table_apart open_api_object = refl
+table_apart info_object = refl
+table_apart contact_object = refl
+table_apart license_object = refl
+table_apart server_object = refl
+table_apart server_variable_object = refl
+table_apart components_object = refl
+table_apart path_item_object = refl
+table_apart operation_object = refl
+table_apart external_docs_object = refl
+table_apart parameter_object = refl
+table_apart request_body_object = refl
+table_apart media_type_object = refl
+table_apart encoding_object = refl
+table_apart response_object = refl
+table_apart example_object = refl
+table_apart link_object = refl
+table_apart header_object = refl
+table_apart tag_object = refl
+table_apart reference_object = refl
+table_apart discriminator_object = refl
+table_apart xml_object = refl
+table_apart one_of_schema = refl
+table_apart all_of_schema = refl
+table_apart any_of_schema = refl
+table_apart array_schema = refl
+table_apart object_schema = refl
+table_apart api_key_scheme = refl
+table_apart http_scheme = refl
+table_apart open_id_connect_scheme = refl
+table_apart mutual_tls_scheme = refl
+table_apart oauth2_scheme = refl
+table_apart implicit_flow = refl
+table_apart password_flow = refl
+table_apart client_credentials_flow = refl
+table_apart authorization_code_flow = refl
+table_apart device_authorization_flow = refl
+table_apart scopes_object = refl

@@ -15,8 +15,8 @@ use Rattle.utoipa_base.specs.Kinds.{ObjectType, Row}
 use Rattle.utoipa_base.specs.Tables.{table}
 use Rattle.utoipa_base.specs.Docs.{Doc, docs_of, entries_of_list}
 use Rattle.utoipa_base.specs.Values.{values, items_values, members_values, values_of, rows_values, schema_places, docs_places, entries_places}
-use Rattle.utoipa_base.proofs.Tests.{and_first, and_second, not_true, or_first, or_second, apart}
-use Rattle.utoipa_base.proofs.TableNames.{is_named, names_apart, table_names}
+use Rattle.utoipa_base.proofs.Tests.{or_first, or_second, apart}
+use Rattle.utoipa_base.proofs.TableNames.{is_row, are_apart, table_apart, first_once, others_apart}
 
 -- ---- a member under another name, and under this one
 
@@ -47,31 +47,30 @@ sum_at [] ms = 0
 sum_at (r ∷ rs) ms = values_of (get_member r.name ms) + sum_at rs ms
 
 -- a member under none of the names adds nothing
-sum_at-skip : (rs : List Row) (k : List ℕ) (d : Data) (ms : Members) → is_named k rs ≡ false → sum_at rs (member k d ms) ≡ sum_at rs ms
+sum_at-skip : (rs : List Row) (k : List ℕ) (d : Data) (ms : Members) → is_row k rs ≡ false → sum_at rs (member k d ms) ≡ sum_at rs ms
 sum_at-skip [] k d ms h = refl
 sum_at-skip (r ∷ rs) k d ms h =
     let other : r.name ≡ k → ⊥ = λ same. apart k r.name (or_first _ _ h) (sym same) in
     ap (λ o. values_of o + sum_at rs (member k d ms)) (get_member-skip r.name k d ms other) ∙ ap (λ n. values_of (get_member r.name ms) + n) (sum_at-skip rs k d ms (or_second _ _ h))
 
 -- one more member adds no more than its values, by whether the first row names it
-sum_at-member_by : (b : Bool) (r : Row) (rs : List Row) (k : List ℕ) (d : Data) (ms : Members) → bytes_eq r.name k ≡ b → is_named r.name rs ≡ false → sum_at rs (member k d ms) ≤ values d + sum_at rs ms
+sum_at-member_by : (b : Bool) (r : Row) (rs : List Row) (k : List ℕ) (d : Data) (ms : Members) → bytes_eq r.name k ≡ b → is_row r.name rs ≡ false → sum_at rs (member k d ms) ≤ values d + sum_at rs ms
     → sum_at (r ∷ rs) (member k d ms) ≤ values d + sum_at (r ∷ rs) ms
 unfolding values_of
 sum_at-member_by true r rs k d ms is other later =
     let same : r.name ≡ k = (bytes_eq-Decides r.name k).0 is in
     let here : values_of (get_member r.name (member k d ms)) ≡ values d = ap values_of (get_member-here r.name k d ms same) in
-    let rest : sum_at rs (member k d ms) ≡ sum_at rs ms = sum_at-skip rs k d ms (subst (λ n. is_named n rs ≡ false) same other) in
+    let rest : sum_at rs (member k d ms) ≡ sum_at rs ms = sum_at-skip rs k d ms (subst (λ n. is_row n rs ≡ false) same other) in
     omega (arith, here, rest)
 sum_at-member_by false r rs k d ms is other later =
     let skip : values_of (get_member r.name (member k d ms)) ≡ values_of (get_member r.name ms) = ap values_of (get_member-skip r.name k d ms (apart r.name k is)) in
     omega (arith, skip, later)
 
 -- one more member adds no more than its values
-sum_at-member : (rs : List Row) (k : List ℕ) (d : Data) (ms : Members) → names_apart rs ≡ true → sum_at rs (member k d ms) ≤ values d + sum_at rs ms
+sum_at-member : (rs : List Row) (k : List ℕ) (d : Data) (ms : Members) → are_apart rs ≡ true → sum_at rs (member k d ms) ≤ values d + sum_at rs ms
 sum_at-member [] k d ms h = omega arith
 sum_at-member (r ∷ rs) k d ms h =
-    let rest = and_second _ _ h in
-    sum_at-member_by _ r rs k d ms refl (not_true _ (and_first _ _ rest)) (sum_at-member rs k d ms (and_second _ _ rest))
+    sum_at-member_by _ r rs k d ms refl (first_once r rs h) (sum_at-member rs k d ms (others_apart r rs h))
 
 -- no members have no values
 sum_at-none : (rs : List Row) → sum_at rs no_members ≡ 0
@@ -80,7 +79,7 @@ sum_at-none [] = refl
 sum_at-none (r ∷ rs) = omega (arith, sum_at-none rs)
 
 -- the members that rows name have no more values than all members
-sum_at-le : (rs : List Row) (ms : Members) → names_apart rs ≡ true → sum_at rs ms ≤ members_values ms
+sum_at-le : (rs : List Row) (ms : Members) → are_apart rs ≡ true → sum_at rs ms ≤ members_values ms
 unfolding members_values
 sum_at-le rs no_members h = omega (arith, sum_at-none rs)
 sum_at-le rs (member k d ms) h = omega (arith, sum_at-member rs k d ms h, sum_at-le rs ms h)
@@ -99,7 +98,7 @@ rows_values-object [] ms = refl
 rows_values-object (r ∷ rs) ms = ap (λ n. values_of (get_member r.name ms) + n) (rows_values-object rs ms)
 
 -- members under distinct names have together fewer values than their object
-pub rows_fewer : (rs : List Row) (d : Data) → names_apart rs ≡ true → rows_values rs d < values d
+pub rows_fewer : (rs : List Row) (d : Data) → are_apart rs ≡ true → rows_values rs d < values d
 unfolding values
 rows_fewer rs null h = omega (arith, rows_values-none rs null (λ k. refl))
 rows_fewer rs (boolean b) h = omega (arith, rows_values-none rs (boolean b) (λ k. refl))
@@ -110,7 +109,7 @@ rows_fewer rs (object ms) h = omega (arith, rows_values-object rs ms, sum_at-le 
 
 -- the members of a table's rows have no more values than their object
 pub table_values : (n : ObjectType) (d : Data) → rows_values (table n) d ≤ values d
-table_values n d = omega (arith, rows_fewer (table n) d (table_names n))
+table_values n d = omega (arith, rows_fewer (table n) d (table_apart n))
 
 -- ---- the items and members of a value
 

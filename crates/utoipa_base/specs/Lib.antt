@@ -15,3 +15,4 @@ pub mod Fields
 pub mod Faults
 pub mod Views
 pub mod Refs
+pub mod OfKind

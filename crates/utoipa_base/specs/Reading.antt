@@ -1,10 +1,10 @@
 -- What a tree reads as: every row of a table fits at once, and of a choice the first alternative that gives a document is taken.
-use Rattle.std.specs.Prelude.{ℕ, ◌==◌, ◌&&◌, ◌||◌, ℤ, List, [], ◌∷◌, Bool, true, false, not, if◌then◌else◌, Option, None, Some, option_map, option_and_then, is_some, codes}
+use Rattle.std.specs.Prelude.{ℕ, ◌^◌, ℤ, pos, negsuc, nat_lt, List, [], ◌∷◌, Bool, true, false, not, if◌then◌else◌, Option, None, Some, option_map, option_and_then, is_some, codes}
 use Rattle.std.specs.List.{list_any}
 use Rattle.std.specs.Ordering.{nat_cmp, match_ordering}
 use Rattle.std.specs.Cmp.Lexicographic.{slice_cmp}
 use Rattle.serde_json.specs.Data.{Num, Data, null, boolean, number, string, array, object, Items, no_items, item, Members, no_members, member}
-use Rattle.serde_json.specs.Find.{as_u64, as_i64, as_str, get_member}
+use Rattle.serde_json.specs.Find.{as_u64, as_integer, as_str, get_member}
 use Rattle.utoipa_base.specs.Kinds.{ObjectType, reference_object, one_of_schema, all_of_schema, any_of_schema, array_schema, object_schema, implicit_flow, password_flow, client_credentials_flow, authorization_code_flow, device_authorization_flow, type_word, known_format, Kind, text, flag, whole, numeral, any, word_of, version, list_of, map_of, entries_of, ref_or, named, schema, schema_type, schema_format, array_items, additional_properties, security_scheme, api_key, flows, Mark, required, optional, nullable, defaulted, Row}
 use Rattle.utoipa_base.specs.Words.{is_word}
 use Rattle.utoipa_base.specs.Version.{read_version}
@@ -168,14 +168,14 @@ read_boolean false array_items = Some (flag_doc false)
 read_boolean b (ref_or k) = option_map own_doc (read_boolean b k)
 read_boolean b k = None
 
--- an Int where the number is an i64, else a UInt
-abbrev pub int_or : Option ℤ → Option ℕ → Option Doc
-int_or (Some z) o = Some (int_doc z)
-int_or None o = option_map uint_doc o
+-- a whole number: an Int below 2^63, a UInt from there on
+abbrev pub numeral_doc : ℤ → Doc
+numeral_doc (pos n) = if nat_lt n (2 ^ 63) then int_doc (pos n) else uint_doc n
+numeral_doc (negsuc n) = int_doc (negsuc n)
 
 abbrev pub read_number : Num → Kind → Option Doc
 read_number n whole = option_map whole_doc (as_u64 n)
-read_number n numeral = int_or (as_i64 n) (as_u64 n)
+read_number n numeral = option_map numeral_doc (as_integer n)
 read_number n any = Some (tree_doc (number n))
 read_number n (ref_or k) = option_map own_doc (read_number n k)
 read_number n k = None

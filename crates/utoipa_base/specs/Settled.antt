@@ -1,10 +1,10 @@
 -- The settled form of a document: what it is after it was written and read.
-use Rattle.std.specs.Prelude.{ℕ, ◌^◌, ℤ, pos, negsuc, Bool, true, false, nat_lt, if◌then◌else◌, Option, None, Some}
+use Rattle.std.specs.Prelude.{pos, Bool, true, false, Option, None, Some}
 use Rattle.serde_json.specs.Data.{Members, no_members, member}
 use Rattle.utoipa_base.specs.Kinds.{known_format}
 use Rattle.utoipa_base.specs.Words.{is_word}
 use Rattle.utoipa_base.specs.Docs.{Doc, text_doc, flag_doc, whole_doc, int_doc, uint_doc, tree_doc, word_doc, custom_doc, types_doc, any_value_doc, none_doc, some_doc, ref_doc, own_doc, schema_doc, tagged_doc, flow_doc, list_doc, map_doc, entries_doc, table_doc, Docs, no_docs, doc, Entries, no_entries, entry}
-use Rattle.utoipa_base.specs.Reading.{is_null, read_format}
+use Rattle.utoipa_base.specs.Reading.{is_null, numeral_doc, read_format}
 use Rattle.utoipa_base.specs.Writing.{write}
 
 -- no extensions are none
@@ -12,15 +12,6 @@ abbrev pub settled_extensions : Option Members → Option Members
 settled_extensions None = None
 settled_extensions (Some no_members) = None
 settled_extensions (Some (member k d ms)) = Some (member k d ms)
-
--- an Int where the number is an i64, else a UInt
-abbrev pub settled_uint : ℕ → Doc
-settled_uint n = if nat_lt n (2 ^ 63) then int_doc (pos n) else uint_doc n
-
--- no value of the program has an Int from 2^63 on
-abbrev pub settled_int : ℤ → Doc
-settled_int (pos n) = settled_uint n
-settled_int (negsuc n) = int_doc (negsuc n)
 
 -- a field that is written as null is none
 abbrev pub settled_some : Bool → Doc → Doc
@@ -32,8 +23,8 @@ unfoldable mutual
   settle (text_doc s) = text_doc s
   settle (flag_doc b) = flag_doc b
   settle (whole_doc n) = whole_doc n
-  settle (int_doc z) = settled_int z
-  settle (uint_doc n) = settled_uint n
+  settle (int_doc z) = numeral_doc z
+  settle (uint_doc n) = numeral_doc (pos n)
   settle (tree_doc d) = tree_doc d
   settle (word_doc s) = word_doc s
   settle (custom_doc s) = read_format (is_word known_format s) s

@@ -6,6 +6,7 @@ pub mod fault;
 pub mod fraction;
 pub mod readings;
 pub mod refs;
+pub mod rows;
 mod scalar;
 pub mod tree;
 

@@ -1,21 +1,25 @@
-ghost use Rattle.std.specs.Prelude.{◌≡◌, ◌≤◌, ◌<◌, ◌+◌, ◌↔◌, Bool, true, false, IsErrOf, Some, IfOk, IfErr};
+ghost use Rattle.std.specs.Prelude.{refl, ◌≡◌, ◌≤◌, ◌<◌, ◌+◌, ◌↔◌, Bool, true, false, IsErrOf, Some, IfOk, IfErr};
 ghost use Rattle.serde_json.specs.View.{view};
 ghost use Rattle.serde_json.specs.Written.{has_float};
-ghost use Rattle.utoipa_base.specs.Kinds.{Kind, ref_or};
-ghost use Rattle.utoipa_base.specs.Docs.{Doc};
+ghost use Rattle.utoipa_base.specs.Kinds.{Kind, text, flag, whole, any, list_of, map_of, ref_or};
+ghost use Rattle.utoipa_base.specs.Docs.{Doc, flag_doc, whole_doc};
 ghost use Rattle.utoipa_base.specs.Faults.{Refuses};
 ghost use Rattle.utoipa_base.specs.Reading.{read};
 ghost use Rattle.utoipa_base.specs.Refs.{ref_or_doc};
 ghost use Rattle.utoipa_base.specs.Shape.{IsOf, value_of};
 ghost use Rattle.utoipa_base.specs.Values.{values, schema_places, is_schema};
+ghost use Rattle.utoipa_base.specs.Views.{text_of, tree_of, list_of_docs, map_of_docs};
+ghost use Rattle.utoipa_base.specs.OfKind.{text_of_kind, flag_of_kind, whole_of_kind, tree_of_kind, list_of_kind, map_of_kind, ref_or_of_kind};
 ghost use Rattle.utoipa_base.specs.Writing.{write};
 
 use crate::fault::ReadFault;
 use crate::fraction::has_fraction;
 use crate::readings::{Counted, Readings};
 use crate::refs::{RefOr, read_reference};
-use serde_json::Value;
+use crate::scalar::{read_flag, read_text, read_whole};
+use serde_json::{Map, Value, put};
 use std::alloc::{AllocError, Global};
+use std::collections::BTreeMap;
 
 /// A type whose values are read from JSON trees and written as JSON trees.
 ///
@@ -121,5 +125,231 @@ pub trait Tree: Drop {
             outcome,
             readings: readings.number(),
         }
+    }
+}
+
+/// A text.
+#[tactic(auto, using(crate::proofs::ByKind::by_kind, crate::proofs::Places::places))]
+impl Tree for String {
+    ghost kind = { text };
+
+    ghost doc = { text_of };
+
+    const IS_SCHEMA: bool = false;
+
+    ghost IS_SCHEMA = { false };
+
+    ghost is_of_kind = { text_of_kind };
+
+    ghost counts_as_schema = { refl };
+
+    fn read_plain(
+        alloc: Global,
+        tree: &Value,
+        _readings: &mut Readings,
+    ) -> Result<String, ReadFault> {
+        read_text(alloc, tree)
+    }
+
+    fn to_value(&self, alloc: Global) -> Result<Value, AllocError> {
+        Value::try_from_str(alloc, self.as_str())
+    }
+
+    fn try_clone(&self, _alloc: Global) -> Result<String, AllocError> {
+        self.clone()
+    }
+}
+
+/// True or false.
+#[tactic(auto, using(crate::proofs::ByKind::by_kind, crate::proofs::Places::places))]
+impl Tree for bool {
+    ghost kind = { flag };
+
+    ghost doc = { flag_doc };
+
+    const IS_SCHEMA: bool = false;
+
+    ghost IS_SCHEMA = { false };
+
+    ghost is_of_kind = { flag_of_kind };
+
+    ghost counts_as_schema = { refl };
+
+    fn read_plain(
+        _alloc: Global,
+        tree: &Value,
+        _readings: &mut Readings,
+    ) -> Result<bool, ReadFault> {
+        read_flag(tree)
+    }
+
+    fn to_value(&self, _alloc: Global) -> Result<Value, AllocError> {
+        Ok(Value::Bool(*self))
+    }
+
+    fn try_clone(&self, _alloc: Global) -> Result<bool, AllocError> {
+        Ok(*self)
+    }
+}
+
+/// A whole number from 0 to 18446744073709551615.
+#[tactic(auto, using(crate::proofs::ByKind::by_kind, crate::proofs::Places::places))]
+impl Tree for usize {
+    ghost kind = { whole };
+
+    ghost doc = { whole_doc };
+
+    const IS_SCHEMA: bool = false;
+
+    ghost IS_SCHEMA = { false };
+
+    ghost is_of_kind = { whole_of_kind };
+
+    ghost counts_as_schema = { refl };
+
+    fn read_plain(
+        _alloc: Global,
+        tree: &Value,
+        _readings: &mut Readings,
+    ) -> Result<usize, ReadFault> {
+        read_whole(tree)
+    }
+
+    fn to_value(&self, _alloc: Global) -> Result<Value, AllocError> {
+        Ok(Value::from(*self as u64))
+    }
+
+    fn try_clone(&self, _alloc: Global) -> Result<usize, AllocError> {
+        Ok(*self)
+    }
+}
+
+/// Any tree.
+#[tactic(auto, using(crate::proofs::ByKind::by_kind, crate::proofs::Places::places))]
+impl Tree for Value {
+    ghost kind = { any };
+
+    ghost doc = { tree_of };
+
+    const IS_SCHEMA: bool = false;
+
+    ghost IS_SCHEMA = { false };
+
+    ghost is_of_kind = { tree_of_kind };
+
+    ghost counts_as_schema = { refl };
+
+    fn read_plain(
+        _alloc: Global,
+        tree: &Value,
+        _readings: &mut Readings,
+    ) -> Result<Value, ReadFault> {
+        Ok(tree.clone()?)
+    }
+
+    fn to_value(&self, _alloc: Global) -> Result<Value, AllocError> {
+        self.clone()
+    }
+
+    fn try_clone(&self, _alloc: Global) -> Result<Value, AllocError> {
+        self.clone()
+    }
+}
+
+/// A list, which is read item by item.
+#[tactic(auto, using(crate::proofs::ByKind::by_lists))]
+impl<T: Tree> Tree for Vec<T> {
+    ghost kind = { list_of T.kind };
+
+    ghost doc = { list_of_docs T.doc };
+
+    const IS_SCHEMA: bool = false;
+
+    ghost IS_SCHEMA = { false };
+
+    ghost is_of_kind = { list_of_kind T.doc T.kind T.is_of_kind };
+
+    ghost counts_as_schema = { refl };
+
+    fn read_plain(
+        alloc: Global,
+        tree: &Value,
+        readings: &mut Readings,
+    ) -> Result<Vec<T>, ReadFault> {
+        let Some(items) = tree.as_array() else {
+            return Err(ReadFault::Kind("list"));
+        };
+        let mut list = Vec::new(alloc);
+        for item in items {
+            list.push(T::read_plain(alloc, item, readings)?)?;
+        }
+        Ok(list)
+    }
+
+    fn to_value(&self, alloc: Global) -> Result<Value, AllocError> {
+        let mut list = Vec::new(alloc);
+        for item in self {
+            list.push(item.to_value(alloc)?)?;
+        }
+        Ok(Value::Array(list))
+    }
+
+    fn try_clone(&self, alloc: Global) -> Result<Vec<T>, AllocError> {
+        let mut list = Vec::new(alloc);
+        for item in self {
+            list.push(item.try_clone(alloc)?)?;
+        }
+        Ok(list)
+    }
+}
+
+/// An object as a map from the names of its members, which is read member by member.
+#[tactic(auto, using(crate::proofs::Maps::by_maps))]
+impl<T: Tree> Tree for BTreeMap<String, T> {
+    ghost kind = { map_of T.kind };
+
+    ghost doc = { map_of_docs T.doc };
+
+    const IS_SCHEMA: bool = false;
+
+    ghost IS_SCHEMA = { false };
+
+    ghost is_of_kind = { map_of_kind T.doc T.kind T.is_of_kind };
+
+    ghost counts_as_schema = { refl };
+
+    fn read_plain(
+        alloc: Global,
+        tree: &Value,
+        readings: &mut Readings,
+    ) -> Result<BTreeMap<String, T>, ReadFault> {
+        let Some(members) = tree.as_object() else {
+            return Err(ReadFault::Kind("map"));
+        };
+        let mut map = BTreeMap::new(alloc);
+        for (key, member) in members.iter() {
+            let name = key.clone()?;
+            let value = T::read_plain(alloc, member, readings)?;
+            drop(map.insert(name, value)?);
+        }
+        Ok(map)
+    }
+
+    fn to_value(&self, alloc: Global) -> Result<Value, AllocError> {
+        let mut members = Map::new(alloc);
+        for (key, member) in self.iter() {
+            put(&mut members, alloc, key.as_str(), member.to_value(alloc)?)?;
+        }
+        Ok(Value::Object(members))
+    }
+
+    fn try_clone(&self, alloc: Global) -> Result<BTreeMap<String, T>, AllocError> {
+        let mut map = BTreeMap::new(alloc);
+        for (key, member) in self.iter() {
+            let name = key.clone()?;
+            let value = member.try_clone(alloc)?;
+            drop(map.insert(name, value)?);
+        }
+        Ok(map)
     }
 }

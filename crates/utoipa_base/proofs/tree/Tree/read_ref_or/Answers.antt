@@ -20,10 +20,10 @@ returns-after-IS_SCHEMA-clause-at_least g c =
     let most = reference_counted g.Self.Tree.kind r in
     let counts : is_schema g.Self.Tree.kind ≡ g.Self.Tree.IS_SCHEMA = g.met.Self.Tree.counts_as_schema in
     elim c.if-IS_SCHEMA.branch [
-      then-IS_SCHEMA w ↦ (λ h. let up = ticked_least c.args.readings.now w.tick.new.self _ w.tick.ensures (omega (arith, h, w.readings-is)) in omega (arith, most, up, w.readings-is))
+      | then-IS_SCHEMA w ↦ (λ h. let up = ticked_least c.args.readings.now w.tick.new.self _ w.tick.ensures (omega (arith, h, w.readings-is)) in omega (arith, most, up, w.readings-is))
       | else-IS_SCHEMA w ↦
-      let none = reference_uncounted g.Self.Tree.kind r (counts ∙ sym c.IS_SCHEMA.ensures ∙ w.if-IS_SCHEMA.false) in
-      λ h. omega (arith, none, w.readings-is)
+          let none = reference_uncounted g.Self.Tree.kind r (counts ∙ sym c.IS_SCHEMA.ensures ∙ w.if-IS_SCHEMA.false) in
+          λ h. omega (arith, none, w.readings-is)
     ]
 
 pub returns-in_err-read_plain-in-Err-clause-err : goal.returns-in_err-read_plain-in-Err-clause-err

@@ -1,0 +1,88 @@
+-- Why each value of the basic types is a document of its type's kind.
+use Rattle.std.specs.Prelude.{◌≡◌, ℕ, List, [], ◌∷◌, Bool, Option, None, Some, map, option_map, String, string_bytes, refl}
+use Rattle.std.specs.declared.alloc.Global.{Global}
+use Rattle.std.specs.BTreeMap.{BTreeMap}
+use Rattle.std.specs.Prelude.{Vec}
+use Rattle.serde_json.specs.Data.{Data}
+use Rattle.serde_json.specs.View.{view}
+use Rattle.serde_json.specs.declared.value.Value.{Value}
+use Rattle.utoipa_base.specs.Kinds.{Kind, text, flag, any, whole, list_of, map_of, ref_or, named, reference_object}
+use Rattle.utoipa_base.specs.Docs.{Doc, text_doc, flag_doc, whole_doc, tree_doc, docs_of, entries_of_list}
+use Rattle.utoipa_base.specs.Shape.{Place, value_of, option_of, IsOf, ItemsOf, EntriesOf, RowsOf}
+use Rattle.utoipa_base.specs.Views as views
+use Rattle.utoipa_base.specs.Refs.{reference_doc, ref_or_doc}
+use Rattle.utoipa_base.specs.declared.refs.Ref.{Ref}
+use Rattle.utoipa_base.specs.declared.refs.RefOr.{RefOr}
+use Rattle.utoipa_base.specs.declared.refs.RefOr.TheVariants as made
+
+pub text_of_kind : (s : String Global) → IsOf (views.text_of s) (value_of text)
+unfolding IsOf
+text_of_kind s = refl
+
+pub flag_of_kind : (b : Bool) → IsOf (flag_doc b) (value_of flag)
+unfolding IsOf
+flag_of_kind b = refl
+
+pub whole_of_kind : (n : ℕ) → IsOf (whole_doc n) (value_of whole)
+unfolding IsOf
+whole_of_kind n = refl
+
+pub tree_of_kind : (v : Value) → IsOf (views.tree_of v) (value_of any)
+unfolding IsOf
+tree_of_kind v = refl
+
+-- an option, where what may be in it is of the kind
+pub option_of_kind : {X : Type 0} (f : X → Doc) (k : Kind) → ((x : X) → IsOf (f x) (value_of k)) → (o : Option X) → IsOf (views.option_of f o) (option_of k)
+unfolding IsOf
+option_of_kind f k each None = (k, refl)
+option_of_kind f k each (Some x) = (k, refl, each x)
+
+items_of_kind : {X : Type 0} (f : X → Doc) (k : Kind) → ((x : X) → IsOf (f x) (value_of k)) → (xs : List X) → ItemsOf (docs_of (map f xs)) k
+unfolding ItemsOf
+items_of_kind f k each [] = tt
+items_of_kind f k each (x ∷ xs) = (each x, items_of_kind f k each xs)
+
+pub list_of_kind : {X : Type 0} (f : X → Doc) (k : Kind) → ((x : X) → IsOf (f x) (value_of k)) → (v : Vec X Global) → IsOf (views.list_of_docs f v) (value_of (list_of k))
+unfolding IsOf
+list_of_kind f k each v = (k, refl, items_of_kind f k each v.items)
+
+pub entries_of_kind : {X : Type 0} (f : X → Doc) (p : Place) → ((x : X) → IsOf (f x) p) → (es : List (String Global × X)) → EntriesOf (entries_of_list (views.pairs_of f es)) p
+unfolding EntriesOf
+entries_of_kind f p each [] = tt
+entries_of_kind f p each (e ∷ es) = (each e.1, entries_of_kind f p each es)
+
+pub map_of_kind : {X : Type 0} (f : X → Doc) (k : Kind) → ((x : X) → IsOf (f x) (value_of k)) → (m : BTreeMap (String Global) X) → IsOf (views.map_of_docs f m) (value_of (map_of k))
+unfolding IsOf
+map_of_kind f k each m = (value_of k, refl, entries_of_kind f (value_of k) each m.entries)
+
+pub reference_of_kind : (r : Ref) → IsOf (reference_doc r) (value_of (named reference_object))
+unfolding IsOf RowsOf
+reference_of_kind r = (
+  refl,
+  (
+    text_of_kind r.ref_location,
+    (
+      text_of_kind r.description,
+      (
+        text_of_kind r.summary,
+        (
+          option_of_kind flag_doc flag flag_of_kind r.read_only,
+          (
+            option_of_kind flag_doc flag flag_of_kind r.write_only,
+            (
+              option_of_kind views.tree_of any tree_of_kind r.default,
+              (option_of_kind views.text_of text text_of_kind r.title, tt),
+            ),
+          ),
+        ),
+      ),
+    ),
+  ),
+  tt,
+)
+
+-- a reference, or a value in its place
+pub ref_or_of_kind : {X : Type 0} (f : X → Doc) (k : Kind) → ((x : X) → IsOf (f x) (value_of k)) → (r : RefOr X) → IsOf (ref_or_doc k f r) (value_of (ref_or k))
+unfolding IsOf
+ref_or_of_kind f k each (made.Ref r) = (refl, reference_of_kind r)
+ref_or_of_kind f k each (made.T x) = (k, refl, each x)
