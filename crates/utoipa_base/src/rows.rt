@@ -116,7 +116,7 @@ pub fn write_option<T: Tree>(
 }
 
 /// Writes an optional member, as null where it is none.
-#[tactic(auto, using(crate::proofs::ByRows::by_row))]
+#[tactic(auto, using(crate::proofs::ByRows::by_row, crate::proofs::ByKind::by_kind))]
 pub fn write_nullable<T: Tree>(
     members: &mut Map<String, Value>,
     alloc: Global,

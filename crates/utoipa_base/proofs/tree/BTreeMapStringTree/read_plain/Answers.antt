@@ -1,4 +1,4 @@
-use Rattle.std.proofs.Common.{◌≡◌, ◌+◌, arith, None, Some, List, [], ◌∷◌, ◌++◌, ◌∙◌, ap, sym, subst, append_assoc, append-nil, map, String, Global, string_bytes, string_cmp, rules}
+use Rattle.std.proofs.Common.{◌≡◌, refl, ◌+◌, arith, None, Some, List, [], ◌∷◌, ◌++◌, ◌∙◌, ap, sym, subst, append_assoc, append-nil, map, String, Global, string_bytes, string_cmp, rules}
 use Rattle.std.proofs.lemmas.List.{map-append}
 use Rattle.std.specs.List.Sorted.{IsStrictlySortedBy}
 use Rattle.std.specs.Map.{keys_of}
@@ -8,7 +8,7 @@ use Rattle.serde_json.specs.View.{view, members_view}
 use Rattle.utoipa_base.specs.Views.{pairs_of}
 use Rattle.utoipa_base.proofs.ByRows.{passes_on}
 use Rattle.utoipa_base.proofs.Values.{members_values-cons, object_values, entries_places-last}
-use Rattle.utoipa_base.proofs.Places.{counted_more}
+use Rattle.utoipa_base.proofs.Places.{counted_more, entries_places-none, schema_places-map}
 use Rattle.utoipa_base.specs.Docs.{entries_of_list}
 use Rattle.utoipa_base.specs.Values.{values, members_values, entries_places}
 use Rattle.utoipa_base.specs.Kinds.{map_of}
@@ -118,3 +118,16 @@ returns-clause-at_most g c =
     let is : Some (members_view es) ≡ as_object (view c.args.tree.now) = ap (λ vs. Some (members_view vs)) is_all ∙ c.in-Some.ensures in
     let less = object_values (view c.args.tree.now) (members_view es) is in
     omega (arith, less)
+
+pub loop-key-init : goal.loop-key-init
+loop-key-init g c =
+    let es = c.into_iter-key-iterator.result in
+    let empty : c.new-map.result.entries ≡ [] = search rules in
+    let none : entries_places (entries_of_list (pairs_of g.T.Tree.doc c.new-map.result.entries)) ≡ 0 =
+    ap (λ r. entries_places (entries_of_list (pairs_of g.T.Tree.doc r))) empty ∙ entries_places-none in
+    ([], refl, ap texts empty, ap (λ r. prepend_entries (pairs_of g.T.Tree.doc r) (entries_read g.T.Tree.kind es)) (sym empty), omega arith, omega arith, λ below. omega (arith, none))
+
+pub returns-clause-at_least : goal.returns-clause-at_least
+returns-clause-at_least g c =
+    let all = schema_places-map (entries_of_list (pairs_of g.T.Tree.doc c.loop-key.map.entries)) in
+    λ below. omega (arith, all, c.loop-key.invariant.6 below)

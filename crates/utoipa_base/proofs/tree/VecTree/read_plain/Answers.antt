@@ -7,7 +7,7 @@ use Rattle.utoipa_base.specs.Kinds.{list_of}
 use Rattle.utoipa_base.specs.Docs.{list_doc}
 use Rattle.utoipa_base.proofs.ByRows.{passes_on}
 use Rattle.utoipa_base.proofs.Values.{items_values-drop, array_values, docs_places-last}
-use Rattle.utoipa_base.proofs.Places.{counted_more}
+use Rattle.utoipa_base.proofs.Places.{counted_more, docs_places-none, schema_places-list}
 use Rattle.utoipa_base.specs.Docs.{docs_of}
 use Rattle.utoipa_base.specs.Values.{items_values, docs_places, schema_places}
 use Rattle.utoipa_base.specs.Reading.{read}
@@ -83,3 +83,15 @@ returns-clause-at_most g c =
     let is : Some (items_view xs) ≡ as_array (view c.args.tree.now) = ap (λ vs. Some (items_view vs)) c.deref-item-items.ensures.value ∙ c.in-Some.ensures in
     let less = array_values (view c.args.tree.now) (items_view xs) is in
     omega (arith, less)
+
+pub loop-item-init : goal.loop-item-init
+loop-item-init g c =
+    let xs = c.deref-item-items.result.now in
+    let empty : c.new-list.result.items ≡ [] = search rules in
+    let none : docs_places (docs_of (map g.T.Tree.doc c.new-list.result.items)) ≡ 0 = ap (λ es. docs_places (docs_of (map g.T.Tree.doc es))) empty ∙ docs_places-none in
+    (ap (λ es. prepend (map g.T.Tree.doc es) (values_read g.T.Tree.kind xs)) (sym empty), omega arith, omega arith, λ below. omega (arith, none))
+
+pub returns-clause-at_least : goal.returns-clause-at_least
+returns-clause-at_least g c =
+    let all = schema_places-list (docs_of (map g.T.Tree.doc c.loop-item.list.items)) in
+    λ below. omega (arith, all, c.loop-item.invariant.3 below)
