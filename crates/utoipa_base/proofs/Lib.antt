@@ -5,6 +5,7 @@ pub mod ByKind
 pub mod Maps
 pub mod ByRows
 pub mod Places
+pub mod Empties
 pub mod Results
 pub mod WrittenMembers
 pub mod Alternatives

@@ -1,15 +1,19 @@
 -- References, and what stands in their place.
-use Rattle.std.proofs.Common.{◌≡◌, ℕ, Bool, zero, suc, ◌+◌, ◌<◌, ◌≤◌, List, [], ◌∷◌, ◌++◌, true, false, Option, Some, None, option_map, refl, sym, ap, ◌∙◌, arith, nat_lt, if◌then◌else◌}
+use Rattle.std.proofs.Common.{string_bytes, ◌≡◌, ℕ, Bool, zero, suc, ◌+◌, ◌<◌, ◌≤◌, List, [], ◌∷◌, ◌++◌, true, false, Option, Some, None, option_map, refl, sym, ap, ◌∙◌, arith, nat_lt, if◌then◌else◌}
 use Rattle.std.proofs.lemmas.Bool.Decides.{nat_tests}
 use Rattle.serde_json.specs.Data.{Data, null, boolean, number, string, array, object, Members}
 use Rattle.serde_json.specs.Find.{get, get_member}
 use Rattle.utoipa_base.specs.declared.fault.ReadFault.{ReadFault}
 use Rattle.utoipa_base.specs.declared.fault.ReadFault.TheVariants.{Memory, Fraction, Missing, Kind as no_kind, Word, Alternative, Text}
 use Rattle.utoipa_base.specs.Faults.{Refuses}
-use Rattle.utoipa_base.specs.Kinds.{ObjectType, reference_object, Kind, named, schema, ref_or}
+use Rattle.utoipa_base.specs.Kinds.{ObjectType, reference_object, Kind, text, flag, list_of, map_of, named, schema, schema_type, ref_or}
 use Rattle.utoipa_base.specs.Docs.{Doc, text_doc, flag_doc, whole_doc, tree_doc, none_doc, some_doc, ref_doc, own_doc, list_doc, map_doc, table_doc, Docs, no_docs, doc, Entries, no_entries}
-use Rattle.utoipa_base.specs.Reading.{reader, read, or_else, read_ref_or}
+use Rattle.utoipa_base.specs.Reading.{reader, read, or_else, read_ref_or, empty_doc}
 use Rattle.utoipa_base.specs.Writing.{write}
+use Rattle.serde_json.specs.View.{view}
+use Rattle.utoipa_base.specs.Views.{text_of, tree_of, option_of}
+use Rattle.utoipa_base.specs.Refs.{reference_doc}
+use Rattle.utoipa_base.specs.declared.refs.Ref.{Ref}
 use Rattle.utoipa_base.specs.Values.{values, schema_places, docs_places, entries_places, is_schema}
 
 -- a fault other than memory: there is no document
@@ -73,7 +77,15 @@ some_value (string s) = omega arith
 some_value (array ds) = omega arith
 some_value (object ms) = omega arith
 
-pub ruleset by_places = (reference_uncounted, own_places, some_value)
+pub write-ref : (k : Kind) (d : Doc) → write (ref_doc k d) ≡ write d
+unfolding write
+write-ref k d = refl
+
+pub write-own : (d : Doc) → write (own_doc d) ≡ write d
+unfolding write
+write-own d = refl
+
+pub ruleset by_places = (reference_uncounted, own_places, some_value, write-ref, write-own)
 
 -- ---- the schema places of each sort of document
 
@@ -125,7 +137,33 @@ pub schema_places-table : (n : ObjectType) (ds : Docs) (e : Option Members) → 
 unfolding schema_places
 schema_places-table n ds e = refl
 
-pub ruleset places = (schema_places-text, schema_places-flag, schema_places-whole, schema_places-tree, schema_places-none, schema_places-some, own_places, schema_places-list, schema_places-map)
+-- an empty document holds no schema
+pub schema_places-empty : (k : Kind) → schema_places (empty_doc k) ≡ 0
+unfolding schema_places docs_places entries_places
+schema_places-empty text = refl
+schema_places-empty flag = refl
+schema_places-empty (list_of k) = refl
+schema_places-empty (map_of k) = refl
+schema_places-empty schema_type = refl
+schema_places-empty k = refl
+
+-- an option of what holds no schema holds none
+option_places : {X : Type 0} (f : X → Doc) → ((x : X) → schema_places (f x) ≡ 0) → (o : Option X) → schema_places (option_of f o) ≡ 0
+unfolding schema_places
+option_places f each None = refl
+option_places f each (Some x) = each x
+
+-- a reference holds no schema
+pub schema_places-reference : (r : Ref) → schema_places (reference_doc r) ≡ 0
+unfolding schema_places docs_places
+schema_places-reference r =
+    let read_only = option_places flag_doc schema_places-flag r.read_only in
+    let write_only = option_places flag_doc schema_places-flag r.write_only in
+    let default = option_places tree_of (λ v. schema_places-tree (view v)) r.default in
+    let title = option_places text_of (λ s. schema_places-text (string_bytes s)) r.title in
+    omega (arith, read_only, write_only, default, title)
+
+pub ruleset places = (schema_places-empty, schema_places-reference, schema_places-text, schema_places-flag, schema_places-whole, schema_places-tree, schema_places-none, schema_places-some, own_places, schema_places-list, schema_places-map)
 
 -- ---- a counter after one tick
 

@@ -2,6 +2,7 @@
 //! types that are read from a tree and written as one.
 #![tactic(auto)]
 
+pub mod empty;
 pub mod fault;
 pub mod fraction;
 pub mod readings;

@@ -131,3 +131,13 @@ pub fn write_nullable<T: Tree>(
         None => put(members, alloc, name, Value::Null),
     }
 }
+
+/// An equal value, where there is one.
+pub fn clone_option<T: Tree>(alloc: Global, value: &Option<T>) -> Result<Option<T>, AllocError>
+    ensures { IfOk result (λ copy. option_of T.doc copy ≡ option_of T.doc value.now) }
+{
+    match value {
+        Some(value) => Ok(Some(value.try_clone(alloc)?)),
+        None => Ok(None),
+    }
+}

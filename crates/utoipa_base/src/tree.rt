@@ -1,21 +1,23 @@
 ghost use Rattle.std.specs.Prelude.{refl, ◌≡◌, ◌≤◌, ◌<◌, ◌+◌, ◌↔◌, Bool, true, false, IsErrOf, Some, IfOk, IfErr};
 ghost use Rattle.serde_json.specs.View.{view};
 ghost use Rattle.serde_json.specs.Written.{has_float};
-ghost use Rattle.utoipa_base.specs.Kinds.{Kind, text, flag, whole, any, list_of, map_of, ref_or};
+ghost use Rattle.utoipa_base.specs.Kinds.{Kind, text, flag, whole, any, list_of, map_of, ref_or, named, reference_object};
 ghost use Rattle.utoipa_base.specs.Docs.{Doc, flag_doc, whole_doc};
 ghost use Rattle.utoipa_base.specs.Faults.{Refuses};
 ghost use Rattle.utoipa_base.specs.Reading.{read};
-ghost use Rattle.utoipa_base.specs.Refs.{ref_or_doc};
+ghost use Rattle.utoipa_base.specs.Refs.{reference_doc, ref_or_doc};
 ghost use Rattle.utoipa_base.specs.Shape.{IsOf, value_of};
 ghost use Rattle.utoipa_base.specs.Values.{values, schema_places, is_schema};
 ghost use Rattle.utoipa_base.specs.Views.{text_of, tree_of, list_of_docs, map_of_docs};
-ghost use Rattle.utoipa_base.specs.OfKind.{text_of_kind, flag_of_kind, whole_of_kind, tree_of_kind, list_of_kind, map_of_kind, ref_or_of_kind};
+ghost use Rattle.utoipa_base.specs.OfKind.{text_of_kind, flag_of_kind, whole_of_kind, tree_of_kind, list_of_kind, map_of_kind, reference_of_kind, ref_or_of_kind};
 ghost use Rattle.utoipa_base.specs.Writing.{write};
 
+use crate::empty::write_unless_empty;
 use crate::fault::ReadFault;
 use crate::fraction::has_fraction;
 use crate::readings::{Counted, Readings};
-use crate::refs::{RefOr, read_reference};
+use crate::refs::{Ref, RefOr, read_reference};
+use crate::rows::{clone_option, write_option, write_required};
 use crate::scalar::{read_flag, read_text, read_whole};
 use serde_json::{Map, Value, put};
 use std::alloc::{AllocError, Global};
@@ -351,5 +353,87 @@ impl<T: Tree> Tree for BTreeMap<String, T> {
             drop(map.insert(name, value)?);
         }
         Ok(map)
+    }
+}
+
+/// A Reference Object (OpenAPI 3.1, section 4.8.23).
+#[tactic(auto, using(crate::proofs::Places::places))]
+impl Tree for Ref {
+    ghost kind = { named reference_object };
+
+    ghost doc = { reference_doc };
+
+    const IS_SCHEMA: bool = false;
+
+    ghost IS_SCHEMA = { false };
+
+    ghost is_of_kind = { reference_of_kind };
+
+    ghost counts_as_schema = { refl };
+
+    fn read_plain(alloc: Global, tree: &Value, _readings: &mut Readings) -> Result<Ref, ReadFault> {
+        read_reference(alloc, tree)
+    }
+
+    fn to_value(&self, alloc: Global) -> Result<Value, AllocError> {
+        let mut members = Map::new(alloc);
+        write_required(&mut members, alloc, "$ref", &self.ref_location)?;
+        write_unless_empty(&mut members, alloc, "description", &self.description)?;
+        write_unless_empty(&mut members, alloc, "summary", &self.summary)?;
+        write_option(&mut members, alloc, "readOnly", &self.read_only)?;
+        write_option(&mut members, alloc, "writeOnly", &self.write_only)?;
+        write_option(&mut members, alloc, "default", &self.default)?;
+        write_option(&mut members, alloc, "title", &self.title)?;
+        Ok(Value::Object(members))
+    }
+
+    fn try_clone(&self, alloc: Global) -> Result<Ref, AllocError> {
+        Ok(Ref {
+            ref_location: self.ref_location.try_clone(alloc)?,
+            description: self.description.try_clone(alloc)?,
+            summary: self.summary.try_clone(alloc)?,
+            read_only: clone_option(alloc, &self.read_only)?,
+            write_only: clone_option(alloc, &self.write_only)?,
+            default: clone_option(alloc, &self.default)?,
+            title: clone_option(alloc, &self.title)?,
+        })
+    }
+}
+
+/// A reference, or else a value in its place.
+#[tactic(auto, using(crate::proofs::Places::by_places))]
+impl<T: Tree> Tree for RefOr<T> {
+    ghost kind = { ref_or T.kind };
+
+    ghost doc = { ref_or_doc T.kind T.doc };
+
+    const IS_SCHEMA: bool = false;
+
+    ghost IS_SCHEMA = { false };
+
+    ghost is_of_kind = { ref_or_of_kind T.doc T.kind T.is_of_kind };
+
+    ghost counts_as_schema = { refl };
+
+    fn read_plain(
+        alloc: Global,
+        tree: &Value,
+        readings: &mut Readings,
+    ) -> Result<RefOr<T>, ReadFault> {
+        T::read_ref_or(alloc, tree, readings)
+    }
+
+    fn to_value(&self, alloc: Global) -> Result<Value, AllocError> {
+        match self {
+            RefOr::Ref(reference) => reference.to_value(alloc),
+            RefOr::T(value) => value.to_value(alloc),
+        }
+    }
+
+    fn try_clone(&self, alloc: Global) -> Result<RefOr<T>, AllocError> {
+        match self {
+            RefOr::Ref(reference) => Ok(RefOr::Ref(reference.try_clone(alloc)?)),
+            RefOr::T(value) => Ok(RefOr::T(value.try_clone(alloc)?)),
+        }
     }
 }
