@@ -1,5 +1,5 @@
 -- Members under distinct names have together fewer values than their object, and one more document at the end of a list adds its places.
-use Rattle.std.proofs.Common.{◌≡◌, ℕ, ◌+◌, ◌<◌, ◌≤◌, suc, List, [], ◌∷◌, ◌++◌, Bool, true, false, Option, Some, None, refl, sym, ap, ◌∙◌, subst, true≢false, nat_cmp, Ordering, Less, Equal, Greater, arith, drop, drop-cons, add-one, length, get_or}
+use Rattle.std.proofs.Common.{◌≡◌, ℕ, ◌+◌, ◌<◌, ◌≤◌, suc, List, [], ◌∷◌, ◌++◌, Bool, true, false, not, ◌||◌, Option, Some, None, refl, sym, ap, ◌∙◌, subst, true≢false, nat_cmp, Ordering, Less, Equal, Greater, arith, drop, drop-cons, add-one, length, get_or}
 use Rattle.std.proofs.lemmas.Slice.Eq.{bytes_eq-Decides}
 use Rattle.std.proofs.lemmas.Cmp.{nat_list_cmp_total, tied_itself}
 use Rattle.std.proofs.lemmas.Map.Text.{is_eq-slice_cmp}
@@ -14,9 +14,9 @@ use Rattle.serde_json.proofs.Views.{Entry}
 use Rattle.utoipa_base.specs.Kinds.{ObjectType, Row}
 use Rattle.utoipa_base.specs.Tables.{table}
 use Rattle.utoipa_base.specs.Docs.{Doc, docs_of, entries_of_list}
-use Rattle.utoipa_base.specs.Values.{values, items_values, members_values, values_of, rows_values, schema_places, docs_places, entries_places}
-use Rattle.utoipa_base.proofs.Tests.{or_first, or_second, apart}
-use Rattle.utoipa_base.proofs.TableNames.{is_row, are_apart, table_apart, first_once, others_apart}
+use Rattle.utoipa_base.specs.Values.{values, items_values, members_values, values_of, names_values, is_one_of, are_distinct, schema_places, docs_places, entries_places}
+use Rattle.utoipa_base.proofs.Tests.{and_first, and_second, not_true, or_first, or_second, apart}
+use Rattle.utoipa_base.proofs.TableNames.{is_row, are_apart, table_apart, first_once as first_row_once, others_apart}
 
 -- ---- a member under another name, and under this one
 
@@ -39,77 +39,99 @@ get_member-skip q k d ms other = either (slice_cmp nat_cmp q k) _ _ (is_eq-slice
 get_member-here : (q k : List ℕ) (d : Data) (ms : Members) → q ≡ k → get_member q (member k d ms) ≡ Some d
 get_member-here q k d ms same = rw (same, tied_itself nat_list_cmp_total k)
 
--- ---- the members that rows name
+-- ---- the members of names
 
--- the values of the rows' members among members
-abbrev sum_at : List Row → Members → ℕ
+-- the values of the names' members among members
+abbrev sum_at : List (List ℕ) → Members → ℕ
 sum_at [] ms = 0
-sum_at (r ∷ rs) ms = values_of (get_member r.name ms) + sum_at rs ms
+sum_at (n ∷ ns) ms = values_of (get_member n ms) + sum_at ns ms
+
+-- the first of distinct names is no other
+first_once : (n : List ℕ) (ns : List (List ℕ)) → are_distinct (n ∷ ns) ≡ true → is_one_of n ns ≡ false
+first_once n ns h = not_true _ (and_first (not (is_one_of n ns)) (are_distinct ns) h)
+
+-- the others are distinct too
+others_distinct : (n : List ℕ) (ns : List (List ℕ)) → are_distinct (n ∷ ns) ≡ true → are_distinct ns ≡ true
+others_distinct n ns h = and_second (not (is_one_of n ns)) (are_distinct ns) h
 
 -- a member under none of the names adds nothing
-sum_at-skip : (rs : List Row) (k : List ℕ) (d : Data) (ms : Members) → is_row k rs ≡ false → sum_at rs (member k d ms) ≡ sum_at rs ms
+sum_at-skip : (ns : List (List ℕ)) (k : List ℕ) (d : Data) (ms : Members) → is_one_of k ns ≡ false → sum_at ns (member k d ms) ≡ sum_at ns ms
 sum_at-skip [] k d ms h = refl
-sum_at-skip (r ∷ rs) k d ms h =
-    let other : r.name ≡ k → ⊥ = λ same. apart k r.name (or_first _ _ h) (sym same) in
-    ap (λ o. values_of o + sum_at rs (member k d ms)) (get_member-skip r.name k d ms other) ∙ ap (λ n. values_of (get_member r.name ms) + n) (sum_at-skip rs k d ms (or_second _ _ h))
+sum_at-skip (n ∷ ns) k d ms h =
+    let other : n ≡ k → ⊥ = λ same. apart k n (or_first _ _ h) (sym same) in
+    ap (λ o. values_of o + sum_at ns (member k d ms)) (get_member-skip n k d ms other) ∙ ap (λ m. values_of (get_member n ms) + m) (sum_at-skip ns k d ms (or_second _ _ h))
 
--- one more member adds no more than its values, by whether the first row names it
-sum_at-member_by : (b : Bool) (r : Row) (rs : List Row) (k : List ℕ) (d : Data) (ms : Members) → bytes_eq r.name k ≡ b → is_row r.name rs ≡ false → sum_at rs (member k d ms) ≤ values d + sum_at rs ms
-    → sum_at (r ∷ rs) (member k d ms) ≤ values d + sum_at (r ∷ rs) ms
+-- one more member adds no more than its values, by whether it has the first name
+sum_at-member_by : (b : Bool) (n : List ℕ) (ns : List (List ℕ)) (k : List ℕ) (d : Data) (ms : Members) → bytes_eq n k ≡ b → is_one_of n ns ≡ false → sum_at ns (member k d ms) ≤ values d + sum_at ns ms
+    → sum_at (n ∷ ns) (member k d ms) ≤ values d + sum_at (n ∷ ns) ms
 unfolding values_of
-sum_at-member_by true r rs k d ms is other later =
-    let same : r.name ≡ k = (bytes_eq-Decides r.name k).0 is in
-    let here : values_of (get_member r.name (member k d ms)) ≡ values d = ap values_of (get_member-here r.name k d ms same) in
-    let rest : sum_at rs (member k d ms) ≡ sum_at rs ms = sum_at-skip rs k d ms (subst (λ n. is_row n rs ≡ false) same other) in
+sum_at-member_by true n ns k d ms is other later =
+    let same : n ≡ k = (bytes_eq-Decides n k).0 is in
+    let here : values_of (get_member n (member k d ms)) ≡ values d = ap values_of (get_member-here n k d ms same) in
+    let rest : sum_at ns (member k d ms) ≡ sum_at ns ms = sum_at-skip ns k d ms (subst (λ m. is_one_of m ns ≡ false) same other) in
     omega (arith, here, rest)
-sum_at-member_by false r rs k d ms is other later =
-    let skip : values_of (get_member r.name (member k d ms)) ≡ values_of (get_member r.name ms) = ap values_of (get_member-skip r.name k d ms (apart r.name k is)) in
+sum_at-member_by false n ns k d ms is other later =
+    let skip : values_of (get_member n (member k d ms)) ≡ values_of (get_member n ms) = ap values_of (get_member-skip n k d ms (apart n k is)) in
     omega (arith, skip, later)
 
 -- one more member adds no more than its values
-sum_at-member : (rs : List Row) (k : List ℕ) (d : Data) (ms : Members) → are_apart rs ≡ true → sum_at rs (member k d ms) ≤ values d + sum_at rs ms
+sum_at-member : (ns : List (List ℕ)) (k : List ℕ) (d : Data) (ms : Members) → are_distinct ns ≡ true → sum_at ns (member k d ms) ≤ values d + sum_at ns ms
 sum_at-member [] k d ms h = omega arith
-sum_at-member (r ∷ rs) k d ms h =
-    sum_at-member_by _ r rs k d ms refl (first_once r rs h) (sum_at-member rs k d ms (others_apart r rs h))
+sum_at-member (n ∷ ns) k d ms h = sum_at-member_by _ n ns k d ms refl (first_once n ns h) (sum_at-member ns k d ms (others_distinct n ns h))
 
 -- no members have no values
-sum_at-none : (rs : List Row) → sum_at rs no_members ≡ 0
+sum_at-none : (ns : List (List ℕ)) → sum_at ns no_members ≡ 0
 unfolding values_of
 sum_at-none [] = refl
-sum_at-none (r ∷ rs) = omega (arith, sum_at-none rs)
+sum_at-none (n ∷ ns) = omega (arith, sum_at-none ns)
 
--- the members that rows name have no more values than all members
-sum_at-le : (rs : List Row) (ms : Members) → are_apart rs ≡ true → sum_at rs ms ≤ members_values ms
+-- the members of distinct names have no more values than all members
+sum_at-le : (ns : List (List ℕ)) (ms : Members) → are_distinct ns ≡ true → sum_at ns ms ≤ members_values ms
 unfolding members_values
-sum_at-le rs no_members h = omega (arith, sum_at-none rs)
-sum_at-le rs (member k d ms) h = omega (arith, sum_at-member rs k d ms h, sum_at-le rs ms h)
+sum_at-le ns no_members h = omega (arith, sum_at-none ns)
+sum_at-le ns (member k d ms) h = omega (arith, sum_at-member ns k d ms h, sum_at-le ns ms h)
 
--- a tree with no members has no values under the rows' names
-rows_values-none : (rs : List Row) (d : Data) → ((k : List ℕ) → get k d ≡ None) → rows_values rs d ≡ 0
+-- a tree with no members has no values under any names
+names_values-none : (ns : List (List ℕ)) (d : Data) → ((k : List ℕ) → get k d ≡ None) → names_values ns d ≡ 0
 unfolding values_of
-rows_values-none [] d h = refl
-rows_values-none (r ∷ rs) d h =
-    let first : values_of (get r.name d) ≡ 0 = ap values_of (h r.name) in
-    omega (arith, first, rows_values-none rs d h)
+names_values-none [] d h = refl
+names_values-none (n ∷ ns) d h =
+    let first : values_of (get n d) ≡ 0 = ap values_of (h n) in
+    omega (arith, first, names_values-none ns d h)
 
--- the values of the rows' members in an object are those among its members
-rows_values-object : (rs : List Row) (ms : Members) → rows_values rs (object ms) ≡ sum_at rs ms
-rows_values-object [] ms = refl
-rows_values-object (r ∷ rs) ms = ap (λ n. values_of (get_member r.name ms) + n) (rows_values-object rs ms)
+-- the values of names in an object are those among its members
+names_values-object : (ns : List (List ℕ)) (ms : Members) → names_values ns (object ms) ≡ sum_at ns ms
+names_values-object [] ms = refl
+names_values-object (n ∷ ns) ms = ap (λ m. values_of (get_member n ms) + m) (names_values-object ns ms)
 
 -- members under distinct names have together fewer values than their object
-pub rows_fewer : (rs : List Row) (d : Data) → are_apart rs ≡ true → rows_values rs d < values d
+pub names_fewer : (ns : List (List ℕ)) (d : Data) → are_distinct ns ≡ true → names_values ns d < values d
 unfolding values
-rows_fewer rs null h = omega (arith, rows_values-none rs null (λ k. refl))
-rows_fewer rs (boolean b) h = omega (arith, rows_values-none rs (boolean b) (λ k. refl))
-rows_fewer rs (number x) h = omega (arith, rows_values-none rs (number x) (λ k. refl))
-rows_fewer rs (string s) h = omega (arith, rows_values-none rs (string s) (λ k. refl))
-rows_fewer rs (array ds) h = omega (arith, rows_values-none rs (array ds) (λ k. refl))
-rows_fewer rs (object ms) h = omega (arith, rows_values-object rs ms, sum_at-le rs ms h)
+names_fewer ns null h = omega (arith, names_values-none ns null (λ k. refl))
+names_fewer ns (boolean b) h = omega (arith, names_values-none ns (boolean b) (λ k. refl))
+names_fewer ns (number x) h = omega (arith, names_values-none ns (number x) (λ k. refl))
+names_fewer ns (string s) h = omega (arith, names_values-none ns (string s) (λ k. refl))
+names_fewer ns (array ds) h = omega (arith, names_values-none ns (array ds) (λ k. refl))
+names_fewer ns (object ms) h = omega (arith, names_values-object ns ms, sum_at-le ns ms h)
+
+-- the names of rows
+abbrev pub names_of : List Row → List (List ℕ)
+names_of [] = []
+names_of (r ∷ rs) = r.name ∷ names_of rs
+
+-- a name of no row is none of their names
+unnamed : (name : List ℕ) (rs : List Row) → is_one_of name (names_of rs) ≡ is_row name rs
+unnamed name [] = refl
+unnamed name (r ∷ rs) = ap (λ b. bytes_eq name r.name || b) (unnamed name rs)
+
+-- the names of rows that are apart are distinct
+distinct_names : (rs : List Row) → are_apart rs ≡ true → are_distinct (names_of rs) ≡ true
+distinct_names [] h = refl
+distinct_names (r ∷ rs) h = rw (unnamed r.name rs ∙ first_row_once r rs h) (distinct_names rs (others_apart r rs h))
 
 -- the members of a table's rows have no more values than their object
-pub table_values : (n : ObjectType) (d : Data) → rows_values (table n) d ≤ values d
-table_values n d = omega (arith, rows_fewer (table n) d (table_apart n))
+pub table_values : (n : ObjectType) (d : Data) → names_values (names_of (table n)) d ≤ values d
+table_values n d = omega (arith, names_fewer (names_of (table n)) d (distinct_names (table n) (table_apart n)))
 
 -- ---- the items and members of a value
 

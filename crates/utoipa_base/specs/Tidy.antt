@@ -3,10 +3,11 @@ use Rattle.std.specs.Prelude.{◌≡◌, ◌||◌, ◌&&◌, ℕ, List, [], ◌�
 use Rattle.serde_json.specs.Data.{Data, Members, no_members, member}
 use Rattle.serde_json.specs.Find.{get, as_str}
 use Rattle.serde_json.specs.Written.{has_float, members_have_float}
-use Rattle.utoipa_base.specs.Kinds.{ObjectType}
+use Rattle.utoipa_base.specs.Kinds.{Kind}
 use Rattle.utoipa_base.specs.Choices.{chosen, flow_keys}
 use Rattle.utoipa_base.specs.Docs.{Doc, text_doc, flag_doc, whole_doc, int_doc, uint_doc, tree_doc, word_doc, custom_doc, types_doc, any_value_doc, none_doc, some_doc, ref_doc, own_doc, schema_doc, tagged_doc, flow_doc, list_doc, map_doc, entries_doc, table_doc, Docs, no_docs, doc, Entries, no_entries, entry}
 use Rattle.utoipa_base.specs.Extensions.{is_extension, all_extensions, members_or_none}
+use Rattle.utoipa_base.specs.Reading.{read}
 use Rattle.utoipa_base.specs.Writing.{write}
 
 -- ---- plain
@@ -102,3 +103,7 @@ unfoldable mutual
 -- plain, and tidy at every place
 abbrev pub IsTidy : Doc → Type 0
 IsTidy d = IsPlain d × IsTidyInside d
+
+-- what a plain tree reads as
+abbrev pub Reads : Kind → Data → Doc → Type 0
+Reads k t d = (has_float t ≡ false) × (read k t ≡ Some d)

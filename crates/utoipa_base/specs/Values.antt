@@ -1,8 +1,10 @@
 -- How many values a tree has, and how many schemas a document.
-use Rattle.std.specs.Prelude.{ℕ, ◌+◌, List, [], ◌∷◌, Bool, true, false, Option, None, Some}
+use Rattle.std.specs.Str.{bytes_eq}
+use Rattle.std.specs.List.{list_any}
+use Rattle.std.specs.Prelude.{ℕ, ◌+◌, ◌&&◌, not, List, [], ◌∷◌, Bool, true, false, Option, None, Some}
 use Rattle.serde_json.specs.Data.{Data, null, boolean, number, string, array, object, Items, no_items, item, Members, no_members, member}
 use Rattle.serde_json.specs.Find.{get}
-use Rattle.utoipa_base.specs.Kinds.{Kind, schema, Row}
+use Rattle.utoipa_base.specs.Kinds.{Kind, schema}
 use Rattle.utoipa_base.specs.Docs.{Doc, text_doc, flag_doc, whole_doc, int_doc, uint_doc, tree_doc, word_doc, custom_doc, types_doc, any_value_doc, none_doc, some_doc, ref_doc, own_doc, schema_doc, tagged_doc, flow_doc, list_doc, map_doc, entries_doc, table_doc, Docs, no_docs, doc, Entries, no_entries, entry}
 
 -- ---- the values of a tree: one for itself, and those of its elements or members
@@ -32,10 +34,18 @@ values_of (Some d) = values d
 abbrev pub values_at : List ℕ → Data → ℕ
 values_at name d = values_of (get name d)
 
--- the values of the rows' members
-abbrev pub rows_values : List Row → Data → ℕ
-rows_values [] d = 0
-rows_values (r ∷ rs) d = values_of (get r.name d) + rows_values rs d
+-- the values of the members under some names
+abbrev pub names_values : List (List ℕ) → Data → ℕ
+names_values [] d = 0
+names_values (n ∷ ns) d = values_of (get n d) + names_values ns d
+
+abbrev pub is_one_of : List ℕ → List (List ℕ) → Bool
+is_one_of name names = list_any (bytes_eq name) names
+
+-- whether no name stands twice
+abbrev pub are_distinct : List (List ℕ) → Bool
+are_distinct [] = true
+are_distinct (n ∷ ns) = not (is_one_of n ns) && are_distinct ns
 
 -- ---- the schema places of a document: schemas, and references in the place of one
 

@@ -5,6 +5,7 @@
 pub mod empty;
 pub mod fault;
 pub mod fraction;
+pub mod laws;
 pub mod readings;
 pub mod refs;
 pub mod rows;

@@ -1,0 +1,50 @@
+//! What holds of every type that is read and written, as contracts of functions that do nothing.
+//!
+//! A caller with a value or a tree at hand learns the law by the call. Each law holds of a user's own types too.
+ghost use Rattle.std.specs.Prelude.{◌≡◌, ◌<◌, ℕ, List, Some, true, false};
+ghost use Rattle.serde_json.specs.View.{view};
+ghost use Rattle.serde_json.specs.Written.{has_float};
+ghost use Rattle.utoipa_base.specs.Docs.{Doc};
+ghost use Rattle.utoipa_base.specs.Reading.{read};
+ghost use Rattle.utoipa_base.specs.Settled.{settle};
+ghost use Rattle.utoipa_base.specs.Shape.{IsOf, value_of};
+ghost use Rattle.utoipa_base.specs.Tidy.{IsPlain, IsTidy, IsTidyInside, Reads};
+ghost use Rattle.utoipa_base.specs.Values.{values, names_values, are_distinct};
+ghost use Rattle.utoipa_base.specs.Writing.{write};
+
+use crate::tree::Tree;
+use serde_json::Value;
+
+/// A tidy value reads back from its own tree as its settled form. It need not be plain for its tree to read so.
+pub fn reads_back<T: Tree>(value: &T)
+    ensures tidy { IsTidy (T.doc value.now) → Reads T.kind (write (T.doc value.now)) (settle (T.doc value.now)) }
+    ensures with_fractions { IsTidyInside (T.doc value.now)
+        → read T.kind (write (T.doc value.now)) ≡ Some (settle (T.doc value.now)) }
+{}
+
+/// What is read from a tree is settled.
+pub fn what_is_read<T: Tree>(tree: &Value)
+    ensures { (d : Doc) → read T.kind (view tree.now) ≡ Some d → settle d ≡ d }
+{}
+
+/// Settling twice is settling once.
+pub fn settled_twice<T: Tree>(value: &T)
+    ensures { settle (settle (T.doc value.now)) ≡ settle (T.doc value.now) }
+{}
+
+/// Two tidy values that are written as one tree have one settled form.
+pub fn one_settled_form<T: Tree>(left: &T, right: &T)
+    ensures { IsTidyInside (T.doc left.now) → IsTidyInside (T.doc right.now)
+        → write (T.doc left.now) ≡ write (T.doc right.now) → settle (T.doc left.now) ≡ settle (T.doc right.now) }
+{}
+
+/// What is read from a plain tree is plain, and is written as a plain tree.
+pub fn stays_plain<T: Tree>(tree: &Value)
+    ensures { (d : Doc) → has_float (view tree.now) ≡ false → read T.kind (view tree.now) ≡ Some d
+        → IsPlain d × (has_float (write d) ≡ false) }
+{}
+
+/// The members of an object under distinct names have together fewer values than the object.
+pub fn members_have_fewer_values(tree: &Value)
+    ensures { (names : List (List ℕ)) → are_distinct names ≡ true → names_values names (view tree.now) < values (view tree.now) }
+{}
