@@ -1,6 +1,7 @@
 pub mod Tests
 pub mod TableNames
 pub mod Values
+pub mod ExtensionMembers
 pub mod ByKind
 pub mod Maps
 pub mod ByRows

@@ -1,39 +1,97 @@
--- Specification extensions (OpenAPI 3.1, section 4.9): the members whose names begin `x-`.
-use Rattle.std.specs.Prelude.{ℕ, List, Bool, true, false, ◌&&◌, if◌then◌else◌, Option, None, Some, nat_eq, codes}
+-- Specification extensions: an object's members whose names begin `x-`.
+use Rattle.std.specs.Prelude.{ℕ, List, [], ◌∷◌, ◌++◌, Bool, true, ◌&&◌, if◌then◌else◌, nat_eq, Option, None, Some, codes, String, string_bytes, string_cmp}
 use Rattle.std.specs.List.{starts_with}
-use Rattle.serde_json.specs.Data.{Data, null, boolean, number, string, array, object, Members, no_members, member}
+use Rattle.std.specs.BTreeMap.{is_at}
+use Rattle.std.specs.Map.{remove_entry, set_value}
+use Rattle.std.specs.declared.alloc.Global.{Global}
+use Rattle.serde_json.specs.Data.{Data, null, boolean, number, string, array, object, Members, no_members, member, put}
+use Rattle.serde_json.specs.View.{view, members_view}
+use Rattle.serde_json.specs.declared.value.Value.{Value}
+use Rattle.utoipa_base.specs.declared.extensions.Extensions.{Extensions}
+use Rattle.utoipa_base.specs.declared.extensions.ExtensionsBuilder.{ExtensionsBuilder}
+use Rattle.utoipa_base.specs.declared.extensions.merging.Replaced.{Replaced}
 
+-- the members that extensions hold
+abbrev pub extensions_view : Extensions → Members
+extensions_view e = members_view e.entries.entries
+
+-- the members that a builder of extensions holds
+abbrev pub extensions_builder_view : ExtensionsBuilder → Members
+extensions_builder_view b = extensions_view b.extensions
+
+-- ---- names
+
+-- whether a member of this name is an extension
 abbrev pub is_extension : List ℕ → Bool
 is_extension name = starts_with nat_eq name (codes "x-")
 
--- those of the members that are extensions
+-- the name, with `x-` before it where it does not begin so
+abbrev pub extension_name : List ℕ → List ℕ
+extension_name name = if is_extension name then name else codes "x-" ++ name
+
+-- ---- changes
+
+-- names, each with a value
+abbrev pub Pairs : Type 0
+Pairs = List (String Global × Value)
+
+-- the members, with each pair put in turn, so that the later of two equal names stays
+abbrev pub put_pairs : Pairs → Members → Members
+put_pairs [] ms = ms
+put_pairs (p ∷ ps) ms = put_pairs ps (put (string_bytes p.0) (view p.1) ms)
+
+-- the members of `later`, and those of `earlier` whose names `later` lacks
+abbrev pub overlaid : Members → Members → Members
+overlaid no_members earlier = earlier
+overlaid (member name d later) earlier = overlaid later (put name d earlier)
+
+-- ---- extensions among the members of an object
+
+-- the members that are extensions
 abbrev pub extension_members : Members → Members
 extension_members no_members = no_members
-extension_members (member k d ms) = if is_extension k then member k d (extension_members ms) else extension_members ms
+extension_members (member name d ms) = if is_extension name then member name d (extension_members ms) else extension_members ms
 
 -- whether each of the members is an extension
 abbrev pub all_extensions : Members → Bool
 all_extensions no_members = true
-all_extensions (member k d ms) = is_extension k && all_extensions ms
+all_extensions (member name d ms) = is_extension name && all_extensions ms
 
--- the members, where there is one
+-- the members, or none where there are none
 abbrev pub some_if_any : Members → Option Members
 some_if_any no_members = None
-some_if_any (member k d ms) = Some (member k d ms)
+some_if_any (member name d ms) = Some (member name d ms)
 
--- the extensions among the members, where the type keeps them and there is one
+-- the extensions among an object's members, if its type has any
 abbrev pub extensions_of : Bool → Members → Option Members
-extensions_of kept ms = if kept then some_if_any (extension_members ms) else None
+extensions_of has ms = if has then some_if_any (extension_members ms) else None
 
--- the extensions of a tree
+-- the extensions of a tree, which only an object has, if its type has any
 abbrev pub extensions_at : Bool → Data → Option Members
-extensions_at kept null = None
-extensions_at kept (boolean b) = None
-extensions_at kept (number n) = None
-extensions_at kept (string s) = None
-extensions_at kept (array ds) = None
-extensions_at kept (object ms) = extensions_of kept ms
+extensions_at has null = None
+extensions_at has (boolean b) = None
+extensions_at has (number n) = None
+extensions_at has (string s) = None
+extensions_at has (array ds) = None
+extensions_at has (object ms) = extensions_of has ms
 
+-- the members that extensions are written as
 abbrev pub members_or_none : Option Members → Members
 members_or_none None = no_members
 members_or_none (Some ms) = ms
+
+-- ---- for private clauses: what takes a merge back
+
+-- the pairs, with the value that the name had before, if any
+abbrev pub restored : Option Value → String Global → Pairs → Pairs
+restored None name es = remove_entry (is_at (string_cmp name)) es
+restored (Some v) name es = set_value (is_at (string_cmp name)) es v
+
+-- the pairs, with what was noted put back
+abbrev pub put_back : Replaced → Pairs → Pairs
+put_back r es = restored r.value r.name es
+
+-- the pairs, with each note put back, the last first
+abbrev pub undone : List Replaced → Pairs → Pairs
+undone [] es = es
+undone (r ∷ rs) es = put_back r (undone rs es)

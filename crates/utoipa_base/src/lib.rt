@@ -3,17 +3,31 @@
 #![tactic(auto)]
 
 pub mod empty;
+pub mod extensions;
 pub mod fault;
 pub mod fraction;
 pub mod laws;
 pub mod readings;
 pub mod refs;
 pub mod rows;
+pub mod same;
 mod scalar;
+#[cfg(test)]
+mod tests;
 pub mod tree;
 
+pub use empty::{Empty, row_or_empty, write_unless_empty};
+pub use extensions::{
+    Extensions, ExtensionsBuilder, clone_extensions, is_extension_name, read_extensions,
+    written_extensions,
+};
 pub use fault::ReadFault;
-pub use fraction::has_fraction;
+pub use fraction::{has_fraction, members_have_fraction};
 pub use readings::{Counted, Readings};
 pub use refs::{Ref, RefOr};
+pub use rows::{
+    clone_option, row_default, row_option, row_required, write_nullable, write_option,
+    write_required,
+};
+pub use same::same_tree;
 pub use tree::Tree;

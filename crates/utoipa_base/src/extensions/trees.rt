@@ -1,0 +1,80 @@
+// Extensions as members of an object's tree.
+ghost use Rattle.std.specs.Prelude.{◌≡◌, true, option_map, IfOk, string_bytes};
+ghost use Rattle.serde_json.specs.View.{view, members_view};
+ghost use Rattle.utoipa_base.specs.Extensions.{extensions_view, is_extension, extension_name, extensions_at, members_or_none};
+
+use crate::extensions::{Extensions, copied_members};
+use serde_json::{Map, Value};
+use std::alloc::{AllocError, Global};
+use std::collections::BTreeMap;
+
+/// Whether a member of this name is an extension: it begins `x-`, in lower case.
+pub fn is_extension_name(name: &str) -> bool
+    ensures { result ≡ is_extension name.now }
+{
+    name.as_bytes().starts_with(b"x-")
+}
+
+/// The name of an extension: the given one, with `x-` before it where it does not begin so.
+/// Fails where memory runs out.
+pub(crate) fn prefixed(alloc: Global, name: String) -> Result<String, AllocError>
+    ensures { IfOk result (λ s. string_bytes s ≡ extension_name (string_bytes name)) }
+{
+    if is_extension_name(name.as_str()) {
+        return Ok(name);
+    }
+    let mut whole = String::from_str(alloc, "x-")?;
+    whole.push_str(name.as_str())?;
+    Ok(whole)
+}
+
+/// The extensions that a tree has: None for a tree that is no object, or an object without any.
+/// Fails where memory runs out.
+pub fn read_extensions(alloc: Global, tree: &Value) -> Result<Option<Extensions>, AllocError>
+    ensures { IfOk result
+        (λ o. option_map extensions_view o ≡ extensions_at true (view tree.now)) }
+{
+    let Some(members) = tree.as_object() else {
+        return Ok(None);
+    };
+    let mut entries = BTreeMap::new(alloc);
+    for (key, member) in members.iter() {
+        if is_extension_name(key.as_str()) {
+            let name = key.clone()?;
+            let value = member.clone()?;
+            drop(entries.insert(name, value)?);
+        }
+    }
+    if entries.is_empty() {
+        return Ok(None);
+    }
+    Ok(Some(Extensions { entries }))
+}
+
+/// The members that extensions are written as, over which an object's other members are then put.
+/// Fails where memory runs out.
+pub fn written_extensions(
+    alloc: Global,
+    extensions: &Option<Extensions>,
+) -> Result<Map<String, Value>, AllocError>
+    ensures { IfOk result (λ m. members_view m.entries
+        ≡ members_or_none (option_map extensions_view extensions.now)) }
+{
+    match extensions {
+        Some(all) => copied_members(alloc, all.as_map()),
+        None => Ok(Map::new(alloc)),
+    }
+}
+
+/// Equal extensions, where there are any. Fails where memory runs out.
+pub fn clone_extensions(
+    alloc: Global,
+    extensions: &Option<Extensions>,
+) -> Result<Option<Extensions>, AllocError>
+    ensures { IfOk result (λ copy. option_map extensions_view copy ≡ option_map extensions_view extensions.now) }
+{
+    match extensions {
+        Some(extensions) => Ok(Some(extensions.try_clone(alloc)?)),
+        None => Ok(None),
+    }
+}
