@@ -182,3 +182,21 @@ ticked_most old new most e = grind (arith, nat_tests)
 pub counted_more : (start old new before after one : ℕ) → (old < 18446744073709551615 → start + before ≤ old) → old ≤ new → (new < 18446744073709551615 → old + one ≤ new) → after ≡ before + one
     → new < 18446744073709551615 → start + after ≤ new
 counted_more start old new before after one done grows more is below = omega (arith, done (omega (arith, grows, below)), more below)
+
+-- ---- a counter over the rows of a table
+
+-- a counter that has risen by at least the schema places of documents
+abbrev pub ReadFrom : ℕ → ℕ → Docs → Type 0
+ReadFrom old new ds = (old ≤ new) × (new < 18446744073709551615 → old + docs_places ds ≤ new)
+
+pub read_none : (n : ℕ) → ReadFrom n n no_docs
+unfolding docs_places
+read_none n = (omega arith, λ below. omega arith)
+
+pub read_more : (old mid new : ℕ) (d : Doc) (ds : Docs) → old ≤ mid → (mid < 18446744073709551615 → old + schema_places d ≤ mid) → ReadFrom mid new ds → ReadFrom old new (doc d ds)
+unfolding docs_places
+read_more old mid new d ds grows one rest = (omega (arith, grows, rest.0), λ below. omega (arith, one (omega (arith, rest.0, below)), rest.1 below))
+
+pub table_counted : (old new : ℕ) (n : ObjectType) (ds : Docs) (e : Option Members) → ReadFrom old new ds → new < 18446744073709551615 → old + schema_places (table_doc n ds e) ≤ new
+unfolding schema_places
+table_counted old new n ds e counted below = counted.1 below

@@ -1,14 +1,14 @@
 -- Why each value of the basic types is a document of its type's kind.
-use Rattle.std.specs.Prelude.{◌≡◌, ℕ, List, [], ◌∷◌, Bool, Option, None, Some, map, option_map, String, string_bytes, refl}
+use Rattle.std.specs.Prelude.{◌≡◌, ℕ, List, [], ◌∷◌, Bool, true, Option, None, Some, map, option_map, String, string_bytes, refl}
 use Rattle.std.specs.declared.alloc.Global.{Global}
 use Rattle.std.specs.BTreeMap.{BTreeMap}
 use Rattle.std.specs.Prelude.{Vec}
-use Rattle.serde_json.specs.Data.{Data}
+use Rattle.serde_json.specs.Data.{Members}
 use Rattle.serde_json.specs.View.{view}
 use Rattle.serde_json.specs.declared.value.Value.{Value}
 use Rattle.utoipa_base.specs.Kinds.{Kind, text, flag, any, whole, list_of, map_of, ref_or, named, reference_object}
 use Rattle.utoipa_base.specs.Docs.{Doc, text_doc, flag_doc, whole_doc, tree_doc, docs_of, entries_of_list}
-use Rattle.utoipa_base.specs.Shape.{Place, value_of, option_of, IsOf, ItemsOf, EntriesOf, RowsOf}
+use Rattle.utoipa_base.specs.Shape.{Place, value_of, option_of, IsOf, ItemsOf, EntriesOf, RowsOf, Extends}
 use Rattle.utoipa_base.specs.Views as views
 use Rattle.utoipa_base.specs.Refs.{reference_doc, ref_or_doc}
 use Rattle.utoipa_base.specs.declared.refs.Ref.{Ref}
@@ -86,3 +86,8 @@ pub ref_or_of_kind : {X : Type 0} (f : X → Doc) (k : Kind) → ((x : X) → Is
 unfolding IsOf
 ref_or_of_kind f k each (made.Ref r) = (refl, reference_of_kind r)
 ref_or_of_kind f k each (made.T x) = (k, refl, each x)
+
+-- a type that keeps extensions may have any
+pub extends_of_kind : (e : Option Members) → Extends true e
+extends_of_kind None = tt
+extends_of_kind (Some ms) = refl

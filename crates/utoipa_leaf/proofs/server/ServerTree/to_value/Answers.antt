@@ -1,0 +1,13 @@
+-- Written by tools/answers.py utoipa_leaf server Server
+use Rattle.utoipa_base.specs.Kinds.{server_object}
+use Rattle.utoipa_base.proofs.ByRows.{table_written, rows-cons, rows-nil}
+use Rattle.utoipa_leaf.proofs.server.ServerTree.to_value.Goals as goal
+
+pub returns : goal.returns
+returns c =
+    table_written server_object _ _ _ _ c.in_ok-members.ensures
+    (rows-cons _ _ _ _ _ _ _ c.in_ok-write_required.ensures
+    (rows-cons _ _ _ _ _ _ _ c.in_ok-write_option.ensures
+    (rows-cons _ _ _ _ _ _ _ c.in_ok-write_option-2.ensures
+    (rows-cons _ _ _ _ _ _ _ c.in_ok-write_option-3.ensures
+    (rows-nil _)))))

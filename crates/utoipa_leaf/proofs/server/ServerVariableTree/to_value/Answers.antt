@@ -1,0 +1,12 @@
+-- Written by tools/answers.py utoipa_leaf server ServerVariable
+use Rattle.utoipa_base.specs.Kinds.{server_variable_object}
+use Rattle.utoipa_base.proofs.ByRows.{table_written, rows-cons, rows-nil}
+use Rattle.utoipa_leaf.proofs.server.ServerVariableTree.to_value.Goals as goal
+
+pub returns : goal.returns
+returns c =
+    table_written server_variable_object _ _ _ _ c.in_ok-members.ensures
+    (rows-cons _ _ _ _ _ _ _ c.in_ok-write_required.ensures
+    (rows-cons _ _ _ _ _ _ _ c.in_ok-write_option.ensures
+    (rows-cons _ _ _ _ _ _ _ c.in_ok-write_option-2.ensures
+    (rows-nil _))))

@@ -1,0 +1,149 @@
+#!/usr/bin/env python3
+"""Writes the proofs of a type that is read and written row by row.
+
+    tools/answers.py CRATE MODULE TYPE..
+
+reads crates/CRATE/src/MODULE.rt and writes, for each TYPE, the answers of its `read_plain` and `to_value` below
+crates/CRATE/proofs/MODULE/. The type's `impl Tree` has to have the form of the others: in `read_plain` the test
+`is_object`, a line `let FIELD = row_..(alloc, tree, "..", readings)?;` for each row in the order of the member table,
+and `read_extensions` last, if the type has extensions; in `to_value` a line `write_..(&mut members, ..)?;` for each row
+in that order. Run it again after a row was added, removed or moved. docs/PROOFS.md tells what the answers say.
+"""
+import os
+import re
+import sys
+
+HEADER = "-- Written by tools/answers.py {crate} {module} {type}\n"
+
+
+def body_of(source, start):
+    """The text between the braces that open at or after `start`."""
+    depth, begin = 0, source.index("{", start)
+    for at in range(begin, len(source)):
+        if source[at] == "{":
+            depth += 1
+        elif source[at] == "}":
+            depth -= 1
+            if depth == 0:
+                return source[begin + 1 : at]
+    raise ValueError("no closing brace")
+
+
+def function_of(block, name):
+    return body_of(block, block.index("fn %s(" % name))
+
+
+def numbered(names):
+    """Steps of one name get a count from the second on."""
+    seen, out = {}, []
+    for name in names:
+        seen[name] = seen.get(name, 0) + 1
+        out.append(name if seen[name] == 1 else "%s-%d" % (name, seen[name]))
+    return out
+
+
+def read_answers(crate, path, table, rows, extensions):
+    lines = [
+        "use Rattle.std.proofs.Common.{◌≡◌, ◌∙◌, is_some, true, sym, arith}",
+        "use Rattle.serde_json.specs.Find.{as_object}",
+        "use Rattle.serde_json.specs.View.{view}",
+        "use Rattle.utoipa_base.specs.Kinds.{%s}" % table,
+        "use Rattle.utoipa_base.proofs.ByRows.{passes_on, table_refused, table_fits, fields-first, fields-later, fields-fit, fields-nil, read-no_object%s}"
+        % ("" if extensions else ", no_extensions"),
+        "use Rattle.utoipa_base.proofs.Places.{read_none, read_more, table_counted}",
+        "use Rattle.utoipa_base.proofs.Values.{table_values}",
+        "use %s.read_plain.Goals as goal" % path,
+    ]
+
+    def answer(name, term):
+        lines.append("\npub %s : goal.%s\n%s c = %s" % (name, name, name, term))
+
+    most = "omega (arith, table_values %s (view c.args.tree.now))" % table
+    answer(
+        "returns-then-not-is_object-clause-err",
+        "read-no_object %s _ (sym c.is_object.ensures ∙ c.if-not-is_object.true)" % table,
+    )
+    for at, row in enumerate(rows):
+        residual = "from_residual" if at == 0 else "from_residual-in_err-" + row
+        refused = "fields-first _ _ _ h"
+        for _ in range(at):
+            refused = "fields-later _ _ _ (%s)" % refused
+        answer(
+            "returns-in_err-%s-clause-err" % row,
+            "passes_on _ _ _ _ c.%s.ensures.1 c.in_err-%s.ensures.err (λ h. table_refused %s _ (%s))"
+            % (residual, row, table, refused),
+        )
+        answer("returns-in_err-%s-clause-at_most" % row, most)
+    if extensions:
+        answer("returns-in_err-extensions-clause-at_most", most)
+    fit, counted = "fields-nil _", "read_none _"
+    for row in reversed(rows):
+        fit = "fields-fit _ _ _ _ _ c.in_ok-%s.ensures.ok\n    (%s)" % (row, fit)
+        counted = "read_more _ _ _ _ _ c.in_ok-%s.ensures.grows c.in_ok-%s.ensures.at_least\n    (%s)" % (row, row, counted)
+    answer(
+        "returns-clause-ok",
+        "\n    let is : is_some (as_object (view c.args.tree.now)) ≡ true = sym c.is_object.ensures ∙ c.if-not-is_object.false in"
+        "\n    table_fits %s _ _ _ is\n    (%s)\n    %s"
+        % (table, fit, "c.in_ok-extensions.ensures" if extensions else "(no_extensions (view c.args.tree.now))"),
+    )
+    answer("returns-clause-at_most", most)
+    answer("returns-clause-at_least", "\n    table_counted _ _ %s _ _\n    (%s)" % (table, counted))
+    return "\n".join(lines) + "\n"
+
+
+def write_answers(path, table, calls, extensions):
+    rows = "rows-nil _"
+    for call in reversed(numbered(calls)):
+        rows = "rows-cons _ _ _ _ _ _ _ c.in_ok-%s.ensures\n    (%s)" % (call, rows)
+    lines = ["use Rattle.utoipa_base.specs.Kinds.{%s}" % table]
+    if not extensions:
+        lines[:0] = ["use Rattle.std.proofs.Common.{◌≡◌, None, rules}"]
+        lines += ["use Rattle.serde_json.specs.Data.{no_members}", "use Rattle.serde_json.specs.View.{members_view}"]
+    lines += [
+        "use Rattle.utoipa_base.proofs.ByRows.{table_written, rows-cons, rows-nil}",
+        "use %s.to_value.Goals as goal" % path,
+        "",
+        "pub returns : goal.returns",
+        "returns c =",
+    ]
+    if extensions:
+        lines.append("    table_written %s _ _ _ _ c.in_ok-members.ensures" % table)
+    else:
+        lines.append("    let none : members_view c.new-members.result.entries ≡ no_members = search rules in")
+        lines.append("    table_written %s _ None _ _ none" % table)
+    lines.append("    (%s)" % rows)
+    return "\n".join(lines) + "\n"
+
+
+def write_type(crate, module, name):
+    source = open("crates/%s/src/%s.rt" % (crate, module)).read()
+    block = body_of(source, source.index("impl Tree for %s {" % name))
+    table = re.search(r"ghost kind = \{ named (\w+) \};", block)[1]
+    reader, writer = function_of(block, "read_plain"), function_of(block, "to_value")
+    rows = re.findall(r"let (\w+) = row_\w+\(alloc, tree, \"[^\"]+\", readings\)\?;", reader)
+    calls = re.findall(r"(write_\w+)\(&mut members, ", writer)
+    if len(rows) != len(calls):
+        raise SystemExit("%s reads %d rows and writes %d" % (name, len(rows), len(calls)))
+    extensions = "read_extensions(" in reader
+    header = HEADER.format(crate=crate, module=module, type=name)
+    folder = "crates/%s/proofs/%s/%sTree" % (crate, module, name)
+    path = "Rattle.%s.proofs.%s.%sTree" % (crate, module.replace("/", "."), name)
+    answers = {
+        "read_plain": read_answers(crate, path, table, rows, extensions),
+        "to_value": write_answers(path, table, calls, extensions),
+    }
+    for function, text in answers.items():
+        os.makedirs("%s/%s" % (folder, function), exist_ok=True)
+        with open("%s/%s/Answers.antt" % (folder, function), "w") as out:
+            out.write(header + text)
+
+
+def main(arguments):
+    if len(arguments) < 3:
+        raise SystemExit(__doc__)
+    for name in arguments[2:]:
+        write_type(arguments[0], arguments[1], name)
+
+
+if __name__ == "__main__":
+    main(sys.argv[1:])
