@@ -14,7 +14,7 @@ use Rattle.serde_json.specs.View.{view}
 use Rattle.utoipa_base.specs.Views.{text_of, tree_of, option_of}
 use Rattle.utoipa_base.specs.Refs.{reference_doc}
 use Rattle.utoipa_base.specs.declared.refs.Ref.{Ref}
-use Rattle.utoipa_base.specs.Values.{values, schema_places, docs_places, entries_places, is_schema}
+use Rattle.utoipa_base.specs.Values.{values, schema_count, docs_schema_count, entries_schema_count, is_schema}
 
 -- a fault other than memory: there is no document
 pub refused : (o : Option Doc) (e : ReadFault) → Refuses o e → (e ≡ Memory → ⊥) → o ≡ None
@@ -54,18 +54,18 @@ own_reads j (array ds) x n e = ap (option_map own_doc) e
 own_reads j (object ms) x n e = ap (λ r. or_else (option_map (ref_doc j) r) (option_map own_doc (read j (object ms)))) n ∙ ap (option_map own_doc) e
 
 -- a reference in the place of a kind that is no schema counts nothing
-pub reference_uncounted : (k : Kind) (d : Doc) → is_schema k ≡ false → schema_places (ref_doc k d) ≡ 0
-unfolding schema_places
+pub reference_uncounted : (k : Kind) (d : Doc) → is_schema k ≡ false → schema_count (ref_doc k d) ≡ 0
+unfolding schema_count
 reference_uncounted schema d e = cc
 reference_uncounted k d e = refl
 
-pub reference_counted : (k : Kind) (d : Doc) → schema_places (ref_doc k d) ≤ 1
-unfolding schema_places
+pub reference_counted : (k : Kind) (d : Doc) → schema_count (ref_doc k d) ≤ 1
+unfolding schema_count
 reference_counted schema d = omega arith
 reference_counted k d = omega arith
 
-pub own_places : (d : Doc) → schema_places (own_doc d) ≡ schema_places d
-unfolding schema_places
+pub own_places : (d : Doc) → schema_count (own_doc d) ≡ schema_count d
+unfolding schema_count
 own_places d = refl
 
 pub some_value : (t : Data) → 1 ≤ values t
@@ -89,81 +89,81 @@ pub ruleset by_places = (reference_uncounted, own_places, some_value, write-ref,
 
 -- ---- the schema places of each sort of document
 
-pub schema_places-text : (s : List ℕ) → schema_places (text_doc s) ≡ 0
-unfolding schema_places
-schema_places-text s = refl
+pub schema_count-text : (s : List ℕ) → schema_count (text_doc s) ≡ 0
+unfolding schema_count
+schema_count-text s = refl
 
-pub schema_places-flag : (b : Bool) → schema_places (flag_doc b) ≡ 0
-unfolding schema_places
-schema_places-flag b = refl
+pub schema_count-flag : (b : Bool) → schema_count (flag_doc b) ≡ 0
+unfolding schema_count
+schema_count-flag b = refl
 
-pub schema_places-whole : (n : ℕ) → schema_places (whole_doc n) ≡ 0
-unfolding schema_places
-schema_places-whole n = refl
+pub schema_count-whole : (n : ℕ) → schema_count (whole_doc n) ≡ 0
+unfolding schema_count
+schema_count-whole n = refl
 
-pub schema_places-tree : (d : Data) → schema_places (tree_doc d) ≡ 0
-unfolding schema_places
-schema_places-tree d = refl
+pub schema_count-tree : (d : Data) → schema_count (tree_doc d) ≡ 0
+unfolding schema_count
+schema_count-tree d = refl
 
-pub schema_places-none : schema_places none_doc ≡ 0
-unfolding schema_places
-schema_places-none = refl
+pub schema_count-none : schema_count none_doc ≡ 0
+unfolding schema_count
+schema_count-none = refl
 
-pub schema_places-some : (d : Doc) → schema_places (some_doc d) ≡ schema_places d
-unfolding schema_places
-schema_places-some d = refl
+pub schema_count-some : (d : Doc) → schema_count (some_doc d) ≡ schema_count d
+unfolding schema_count
+schema_count-some d = refl
 
-pub schema_places-list : (ds : Docs) → schema_places (list_doc ds) ≡ docs_places ds
-unfolding schema_places
-schema_places-list ds = refl
+pub schema_count-list : (ds : Docs) → schema_count (list_doc ds) ≡ docs_schema_count ds
+unfolding schema_count
+schema_count-list ds = refl
 
-pub schema_places-map : (es : Entries) → schema_places (map_doc es) ≡ entries_places es
-unfolding schema_places
-schema_places-map es = refl
+pub schema_count-map : (es : Entries) → schema_count (map_doc es) ≡ entries_schema_count es
+unfolding schema_count
+schema_count-map es = refl
 
-pub docs_places-none : docs_places no_docs ≡ 0
-unfolding docs_places
-docs_places-none = refl
+pub docs_schema_count-none : docs_schema_count no_docs ≡ 0
+unfolding docs_schema_count
+docs_schema_count-none = refl
 
-pub docs_places-cons : (d : Doc) (ds : Docs) → docs_places (doc d ds) ≡ schema_places d + docs_places ds
-unfolding docs_places
-docs_places-cons d ds = refl
+pub docs_schema_count-cons : (d : Doc) (ds : Docs) → docs_schema_count (doc d ds) ≡ schema_count d + docs_schema_count ds
+unfolding docs_schema_count
+docs_schema_count-cons d ds = refl
 
-pub entries_places-none : entries_places no_entries ≡ 0
-unfolding entries_places
-entries_places-none = refl
+pub entries_schema_count-none : entries_schema_count no_entries ≡ 0
+unfolding entries_schema_count
+entries_schema_count-none = refl
 
-pub schema_places-table : (n : ObjectType) (ds : Docs) (e : Option Members) → schema_places (table_doc n ds e) ≡ docs_places ds
-unfolding schema_places
-schema_places-table n ds e = refl
+pub schema_count-table : (n : ObjectType) (ds : Docs) (e : Option Members) → schema_count (table_doc n ds e) ≡ docs_schema_count ds
+unfolding schema_count
+schema_count-table n ds e = refl
 
 -- an empty document holds no schema
-pub schema_places-empty : (k : Kind) → schema_places (empty_doc k) ≡ 0
-unfolding schema_places docs_places entries_places
-schema_places-empty text = refl
-schema_places-empty flag = refl
-schema_places-empty (list_of k) = refl
-schema_places-empty (map_of k) = refl
-schema_places-empty schema_type = refl
-schema_places-empty k = refl
+pub schema_count-empty : (k : Kind) → schema_count (empty_doc k) ≡ 0
+unfolding schema_count docs_schema_count entries_schema_count
+schema_count-empty text = refl
+schema_count-empty flag = refl
+schema_count-empty (list_of k) = refl
+schema_count-empty (map_of k) = refl
+schema_count-empty schema_type = refl
+schema_count-empty k = refl
 
 -- an option of what holds no schema holds none
-option_places : {X : Type 0} (f : X → Doc) → ((x : X) → schema_places (f x) ≡ 0) → (o : Option X) → schema_places (option_of f o) ≡ 0
-unfolding schema_places
+option_places : {X : Type 0} (f : X → Doc) → ((x : X) → schema_count (f x) ≡ 0) → (o : Option X) → schema_count (option_of f o) ≡ 0
+unfolding schema_count
 option_places f each None = refl
 option_places f each (Some x) = each x
 
 -- a reference holds no schema
-pub schema_places-reference : (r : Ref) → schema_places (reference_doc r) ≡ 0
-unfolding schema_places docs_places
-schema_places-reference r =
-    let read_only = option_places flag_doc schema_places-flag r.read_only in
-    let write_only = option_places flag_doc schema_places-flag r.write_only in
-    let default = option_places tree_of (λ v. schema_places-tree (view v)) r.default in
-    let title = option_places text_of (λ s. schema_places-text (string_bytes s)) r.title in
+pub schema_count-reference : (r : Ref) → schema_count (reference_doc r) ≡ 0
+unfolding schema_count docs_schema_count
+schema_count-reference r =
+    let read_only = option_places flag_doc schema_count-flag r.read_only in
+    let write_only = option_places flag_doc schema_count-flag r.write_only in
+    let default = option_places tree_of (λ v. schema_count-tree (view v)) r.default in
+    let title = option_places text_of (λ s. schema_count-text (string_bytes s)) r.title in
     omega (arith, read_only, write_only, default, title)
 
-pub ruleset places = (schema_places-empty, schema_places-reference, schema_places-text, schema_places-flag, schema_places-whole, schema_places-tree, schema_places-none, schema_places-some, own_places, schema_places-list, schema_places-map)
+pub ruleset places = (schema_count-empty, schema_count-reference, schema_count-text, schema_count-flag, schema_count-whole, schema_count-tree, schema_count-none, schema_count-some, own_places, schema_count-list, schema_count-map)
 
 -- ---- a counter after one tick
 
@@ -187,16 +187,16 @@ counted_more start old new before after one done grows more is below = omega (ar
 
 -- a counter that has risen by at least the schema places of documents
 abbrev pub ReadFrom : ℕ → ℕ → Docs → Type 0
-ReadFrom old new ds = (old ≤ new) × (new < 18446744073709551615 → old + docs_places ds ≤ new)
+ReadFrom old new ds = (old ≤ new) × (new < 18446744073709551615 → old + docs_schema_count ds ≤ new)
 
 pub read_none : (n : ℕ) → ReadFrom n n no_docs
-unfolding docs_places
+unfolding docs_schema_count
 read_none n = (omega arith, λ below. omega arith)
 
-pub read_more : (old mid new : ℕ) (d : Doc) (ds : Docs) → old ≤ mid → (mid < 18446744073709551615 → old + schema_places d ≤ mid) → ReadFrom mid new ds → ReadFrom old new (doc d ds)
-unfolding docs_places
+pub read_more : (old mid new : ℕ) (d : Doc) (ds : Docs) → old ≤ mid → (mid < 18446744073709551615 → old + schema_count d ≤ mid) → ReadFrom mid new ds → ReadFrom old new (doc d ds)
+unfolding docs_schema_count
 read_more old mid new d ds grows one rest = (omega (arith, grows, rest.0), λ below. omega (arith, one (omega (arith, rest.0, below)), rest.1 below))
 
-pub table_counted : (old new : ℕ) (n : ObjectType) (ds : Docs) (e : Option Members) → ReadFrom old new ds → new < 18446744073709551615 → old + schema_places (table_doc n ds e) ≤ new
-unfolding schema_places
+pub table_counted : (old new : ℕ) (n : ObjectType) (ds : Docs) (e : Option Members) → ReadFrom old new ds → new < 18446744073709551615 → old + schema_count (table_doc n ds e) ≤ new
+unfolding schema_count
 table_counted old new n ds e counted below = counted.1 below

@@ -14,7 +14,7 @@ use Rattle.serde_json.proofs.Views.{Entry}
 use Rattle.utoipa_base.specs.Kinds.{ObjectType, Row}
 use Rattle.utoipa_base.specs.Tables.{table}
 use Rattle.utoipa_base.specs.Docs.{Doc, docs_of, entries_of_list}
-use Rattle.utoipa_base.specs.Values.{values, items_values, members_values, values_of, names_values, is_one_of, are_distinct, schema_places, docs_places, entries_places}
+use Rattle.utoipa_base.specs.Values.{values, items_values, members_values, values_of, names_values, is_one_of, are_distinct, schema_count, docs_schema_count, entries_schema_count}
 use Rattle.utoipa_base.proofs.Tests.{and_first, and_second, not_true, or_first, or_second, apart}
 use Rattle.utoipa_base.proofs.TableNames.{is_row, are_apart, table_apart, first_once as first_row_once, others_apart}
 
@@ -183,13 +183,13 @@ pub ruleset counts = (values_of-some)
 -- ---- the places of a list of documents
 
 -- one more document at the end adds its places
-pub docs_places-last : (ds : List Doc) (d : Doc) → docs_places (docs_of (ds ++ d ∷ [])) ≡ docs_places (docs_of ds) + schema_places d
-unfolding docs_places
-docs_places-last [] d = omega arith
-docs_places-last (e ∷ ds) d = omega (arith, docs_places-last ds d)
+pub docs_schema_count-last : (ds : List Doc) (d : Doc) → docs_schema_count (docs_of (ds ++ d ∷ [])) ≡ docs_schema_count (docs_of ds) + schema_count d
+unfolding docs_schema_count
+docs_schema_count-last [] d = omega arith
+docs_schema_count-last (e ∷ ds) d = omega (arith, docs_schema_count-last ds d)
 
 -- one more entry at the end adds its places
-pub entries_places-last : (es : List (List ℕ × Doc)) (e : List ℕ × Doc) → entries_places (entries_of_list (es ++ e ∷ [])) ≡ entries_places (entries_of_list es) + schema_places e.1
-unfolding entries_places
-entries_places-last [] e = omega arith
-entries_places-last (x ∷ es) e = omega (arith, entries_places-last es e)
+pub entries_schema_count-last : (es : List (List ℕ × Doc)) (e : List ℕ × Doc) → entries_schema_count (entries_of_list (es ++ e ∷ [])) ≡ entries_schema_count (entries_of_list es) + schema_count e.1
+unfolding entries_schema_count
+entries_schema_count-last [] e = omega arith
+entries_schema_count-last (x ∷ es) e = omega (arith, entries_schema_count-last es e)

@@ -1,4 +1,4 @@
--- What is read is settled, and written as null only where null was read.
+-- What is read is in normal form, and written as null only where null was read.
 use Rattle.std.proofs.Common.{◌≡◌, ℕ, ◌^◌, pos, negsuc, List, [], ◌∷◌, Bool, true, false, not, cond, nat_cmp, nat_lt, codes, Option, Some, None, IfSome, option_map, refl, ap, ◌∙◌, true≢false}
 use Rattle.std.proofs.lemmas.Option.{IfSome_then}
 use Rattle.std.specs.List.{list_any}
@@ -14,64 +14,64 @@ use Rattle.utoipa_base.specs.Tables.{table, has_extensions}
 use Rattle.utoipa_base.specs.Extensions.{is_extension, extension_members, extensions_of, some_if_any}
 use Rattle.utoipa_base.specs.Reading.{both, both_entries, only_if, Parts, part, entry_parts, is_null, empty_doc, fits, read_rows, read_table, read_items, read_entries, is_named, read_schema, read_ref_or, text_at, read_alternative, read_tagged, read_api_key, read_scheme, read_flow, read_flows, read_null, read_boolean, numeral_doc, read_number, read_word, read_string, read_array, read_object, reader, item_readers, parts, read}
 use Rattle.utoipa_base.specs.Writing.{write}
-use Rattle.utoipa_base.specs.Settled.{settle, settle_docs, settle_entries, settled_some, settled_extensions}
+use Rattle.utoipa_base.specs.NormalForm.{normal_form, normal_docs, normal_entries, normal_some, normal_extensions}
 use Rattle.utoipa_base.proofs.Results.{if_is, if_map, if_made, if_then, if_else, if_only, by_order}
 use Rattle.utoipa_base.proofs.Twice.{uint_written, format_written, with_null, twice_uint, twice_format}
 
 -- ---- what stays as it was read
 
--- settled
-abbrev IsSettled : Doc → Type 0
-IsSettled d = settle d ≡ d
+-- in normal form
+abbrev IsNormal : Doc → Type 0
+IsNormal d = normal_form d ≡ d
 
--- the documents of a list are settled
-abbrev AreSettled : Docs → Type 0
-AreSettled ds = settle_docs ds ≡ ds
+-- the documents of a list are in normal form
+abbrev AreNormal : Docs → Type 0
+AreNormal ds = normal_docs ds ≡ ds
 
--- the entries of a map are settled
-abbrev EntriesSettled : Entries → Type 0
-EntriesSettled es = settle_entries es ≡ es
+-- the entries of a map are in normal form
+abbrev EntriesNormal : Entries → Type 0
+EntriesNormal es = normal_entries es ≡ es
 
--- settled, and written as null only where null was read
+-- in normal form, and written as null only where null was read
 abbrev Stays : Bool → Doc → Type 0
-Stays b d = (settle d ≡ d) × (b ≡ false → is_null (write d) ≡ false)
+Stays b d = (normal_form d ≡ d) × (b ≡ false → is_null (write d) ≡ false)
 
 -- what a reader reads stays, by whether its tree is null
-abbrev ReadsSettled : Bool → (Kind → Option Doc) → Type 0
-ReadsSettled b f = (k : Kind) → IfSome (f k) (Stays b)
+abbrev ReadsNormal : Bool → (Kind → Option Doc) → Type 0
+ReadsNormal b f = (k : Kind) → IfSome (f k) (Stays b)
 
--- what the items' readers read is settled
-abbrev ItemsSettle : List (Kind → Option Doc) → Type 0
-ItemsSettle [] = Unit {0}
-ItemsSettle (r ∷ rs) = ((k : Kind) → IfSome (r k) IsSettled) × ItemsSettle rs
+-- what the items' readers read is in normal form
+abbrev ItemsReadNormal : List (Kind → Option Doc) → Type 0
+ItemsReadNormal [] = Unit {0}
+ItemsReadNormal (r ∷ rs) = ((k : Kind) → IfSome (r k) IsNormal) × ItemsReadNormal rs
 
 -- what the members' readers read stays
-abbrev PartsSettle : Parts → Type 0
-PartsSettle [] = Unit {0}
-PartsSettle (p ∷ ps) = ReadsSettled p.1.0 p.1.1 × PartsSettle ps
+abbrev PartsReadNormal : Parts → Type 0
+PartsReadNormal [] = Unit {0}
+PartsReadNormal (p ∷ ps) = ReadsNormal p.1.0 p.1.1 × PartsReadNormal ps
 
--- what stays is settled
-only_settled : (b : Bool) (o : Option Doc) → IfSome o (Stays b) → IfSome o IsSettled
-only_settled b o h = IfSome_then o h (λ d p. p.0)
+-- what stays is in normal form
+only_normal : (b : Bool) (o : Option Doc) → IfSome o (Stays b) → IfSome o IsNormal
+only_normal b o h = IfSome_then o h (λ d p. p.0)
 
 -- ---- trees that are neither arrays nor objects
 
 -- what stands in the place of a reference
 own_stays : (b : Bool) (o : Option Doc) → IfSome o (Stays b) → IfSome (option_map own_doc o) (Stays b)
-unfolding settle write
+unfolding normal_form write
 own_stays b o h = if_map (Stays b) (Stays b) own_doc (λ d p. (ap own_doc p.0, p.1)) o h
 
 -- null
-null_stays : ReadsSettled true read_null
-unfolding settle
+null_stays : ReadsNormal true read_null
+unfolding normal_form
 null_stays any = (refl, λ n. absurd (true≢false n))
 null_stays schema_type = (refl, λ n. absurd (true≢false n))
 null_stays (ref_or k) = own_stays true (read_null k) (null_stays k)
 null_stays k = tt
 
 -- true or false
-boolean_stays : (b : Bool) → ReadsSettled false (read_boolean b)
-unfolding settle write
+boolean_stays : (b : Bool) → ReadsNormal false (read_boolean b)
+unfolding normal_form write
 boolean_stays b flag = (refl, λ n. refl)
 boolean_stays b any = (refl, λ n. refl)
 boolean_stays b additional_properties = (refl, λ n. refl)
@@ -82,15 +82,15 @@ boolean_stays b k = tt
 
 -- a `Number`
 numeral_stays : (n : Num) → IfSome (option_map numeral_doc (as_integer n)) (Stays false)
-unfolding settle write
+unfolding normal_form write
 numeral_stays (unsigned n) = (twice_uint n, λ h. uint_written n)
 numeral_stays (negative (pos n)) = (twice_uint n, λ h. uint_written n)
 numeral_stays (negative (negsuc n)) = (refl, λ h. refl)
 numeral_stays (float x) = tt
 
 -- a number
-number_stays : (n : Num) → ReadsSettled false (read_number n)
-unfolding settle write
+number_stays : (n : Num) → ReadsNormal false (read_number n)
+unfolding normal_form write
 number_stays n whole = if_made (Stays false) whole_doc (λ m. (refl, λ h. refl)) (as_u64 n)
 number_stays n numeral = numeral_stays n
 number_stays n any = (refl, λ h. refl)
@@ -99,13 +99,13 @@ number_stays n k = tt
 
 -- a word
 word_stays : (b : Bool) (s : List ℕ) → IfSome (read_word b s) (Stays false)
-unfolding settle write
+unfolding normal_form write
 word_stays true s = (refl, λ h. refl)
 word_stays false s = tt
 
 -- a text
-string_stays : (s : List ℕ) → ReadsSettled false (read_string s)
-unfolding settle write
+string_stays : (s : List ℕ) → ReadsNormal false (read_string s)
+unfolding normal_form write
 string_stays s text = (refl, λ h. refl)
 string_stays s any = (refl, λ h. refl)
 string_stays s (word_of v) = word_stays (is_word v s) s
@@ -118,106 +118,106 @@ string_stays s k = tt
 -- ---- lists and maps
 
 -- one more document of a list
-both_settled : (o : Option Doc) (p : Option Docs) → IfSome o IsSettled → IfSome p AreSettled → IfSome (both o p) AreSettled
-unfolding settle_docs
-both_settled None p g h = tt
-both_settled (Some d) None g h = tt
-both_settled (Some d) (Some ds) g h = ap (λ x. doc x (settle_docs ds)) g ∙ ap (doc d) h
+both_normal : (o : Option Doc) (p : Option Docs) → IfSome o IsNormal → IfSome p AreNormal → IfSome (both o p) AreNormal
+unfolding normal_docs
+both_normal None p g h = tt
+both_normal (Some d) None g h = tt
+both_normal (Some d) (Some ds) g h = ap (λ x. doc x (normal_docs ds)) g ∙ ap (doc d) h
 
 -- one more entry of a map
-both_entries_settled : (k : List ℕ) (o : Option Doc) (p : Option Entries) → IfSome o IsSettled → IfSome p EntriesSettled → IfSome (both_entries k o p) EntriesSettled
-unfolding settle_entries
-both_entries_settled k None p g h = tt
-both_entries_settled k (Some d) None g h = tt
-both_entries_settled k (Some d) (Some es) g h = ap (λ x. entry k x (settle_entries es)) g ∙ ap (entry k d) h
+both_entries_normal : (k : List ℕ) (o : Option Doc) (p : Option Entries) → IfSome o IsNormal → IfSome p EntriesNormal → IfSome (both_entries k o p) EntriesNormal
+unfolding normal_entries
+both_entries_normal k None p g h = tt
+both_entries_normal k (Some d) None g h = tt
+both_entries_normal k (Some d) (Some es) g h = ap (λ x. entry k x (normal_entries es)) g ∙ ap (entry k d) h
 
 -- the items of an array
-items_settled : (k : Kind) (rs : List (Kind → Option Doc)) → ItemsSettle rs → IfSome (read_items k rs) AreSettled
-unfolding settle_docs
-items_settled k [] h = refl
-items_settled k (r ∷ rs) h = both_settled (r k) (read_items k rs) (h.0 k) (items_settled k rs h.1)
+items_normal : (k : Kind) (rs : List (Kind → Option Doc)) → ItemsReadNormal rs → IfSome (read_items k rs) AreNormal
+unfolding normal_docs
+items_normal k [] h = refl
+items_normal k (r ∷ rs) h = both_normal (r k) (read_items k rs) (h.0 k) (items_normal k rs h.1)
 
 -- the members of a map
-entries_settled : (k : Kind) (ps : Parts) → PartsSettle ps → IfSome (read_entries k ps) EntriesSettled
-unfolding settle_entries
-entries_settled k [] h = refl
-entries_settled k (p ∷ ps) h = both_entries_settled p.0 (p.1.1 k) (read_entries k ps) (only_settled p.1.0 (p.1.1 k) (h.0 k)) (entries_settled k ps h.1)
+entries_normal : (k : Kind) (ps : Parts) → PartsReadNormal ps → IfSome (read_entries k ps) EntriesNormal
+unfolding normal_entries
+entries_normal k [] h = refl
+entries_normal k (p ∷ ps) h = both_entries_normal p.0 (p.1.1 k) (read_entries k ps) (only_normal p.1.0 (p.1.1 k) (h.0 k)) (entries_normal k ps h.1)
 
 -- the members that are no extensions, with one more
-kept_parts : (b : Bool) (p : List ℕ × (Bool × (Kind → Option Doc))) (ps : Parts) → ReadsSettled p.1.0 p.1.1 → PartsSettle ps → PartsSettle (cond b ps (p ∷ ps))
+kept_parts : (b : Bool) (p : List ℕ × (Bool × (Kind → Option Doc))) (ps : Parts) → ReadsNormal p.1.0 p.1.1 → PartsReadNormal ps → PartsReadNormal (cond b ps (p ∷ ps))
 kept_parts true p ps g h = h
 kept_parts false p ps g h = (g, h)
 
 -- the members that are no extensions
-entry_parts_settle : (ps : Parts) → PartsSettle ps → PartsSettle (entry_parts ps)
-entry_parts_settle [] h = tt
-entry_parts_settle (p ∷ ps) h = kept_parts (is_extension p.0) p (entry_parts ps) h.0 (entry_parts_settle ps h.1)
+entry_parts_normal : (ps : Parts) → PartsReadNormal ps → PartsReadNormal (entry_parts ps)
+entry_parts_normal [] h = tt
+entry_parts_normal (p ∷ ps) h = kept_parts (is_extension p.0) p (entry_parts ps) h.0 (entry_parts_normal ps h.1)
 
 -- ---- rows
 
 -- the member at a name
-part_settles : (name : List ℕ) (ps : Parts) → PartsSettle ps → IfSome (part name ps) (λ m. ReadsSettled m.0 m.1)
-part_settles name [] h = tt
-part_settles name (p ∷ ps) h =
-    by_order (λ o. IfSome o (λ m. ReadsSettled m.0 m.1)) (slice_cmp nat_cmp name p.0) (part name ps) (Some p.1) (part name ps) (part_settles name ps h.1) h.0 (part_settles name ps h.1)
+part_normal : (name : List ℕ) (ps : Parts) → PartsReadNormal ps → IfSome (part name ps) (λ m. ReadsNormal m.0 m.1)
+part_normal name [] h = tt
+part_normal name (p ∷ ps) h =
+    by_order (λ o. IfSome o (λ m. ReadsNormal m.0 m.1)) (slice_cmp nat_cmp name p.0) (part name ps) (Some p.1) (part name ps) (part_normal name ps h.1) h.0 (part_normal name ps h.1)
 
 -- what an absent member is
-empty_settled : (k : Kind) → IsSettled (empty_doc k)
-unfolding settle settle_docs settle_entries
-empty_settled text = refl
-empty_settled flag = refl
-empty_settled (list_of k) = refl
-empty_settled (map_of k) = refl
-empty_settled schema_type = refl
-empty_settled k = refl
+empty_normal : (k : Kind) → IsNormal (empty_doc k)
+unfolding normal_form normal_docs normal_entries
+empty_normal text = refl
+empty_normal flag = refl
+empty_normal (list_of k) = refl
+empty_normal (map_of k) = refl
+empty_normal schema_type = refl
+empty_normal k = refl
 
 -- a field that may be absent, by whether its member is null
-optional_settled : (b : Bool) (o : Option Doc) → IfSome o (Stays b) → IfSome (cond b (Some none_doc) (option_map some_doc o)) IsSettled
-unfolding settle
-optional_settled true o h = refl
-optional_settled false o h = if_map (Stays false) IsSettled some_doc (λ d p. ap (λ b. settled_some b (settle d)) (p.1 refl) ∙ ap some_doc p.0) o h
+optional_normal : (b : Bool) (o : Option Doc) → IfSome o (Stays b) → IfSome (cond b (Some none_doc) (option_map some_doc o)) IsNormal
+unfolding normal_form
+optional_normal true o h = refl
+optional_normal false o h = if_map (Stays false) IsNormal some_doc (λ d p. ap (λ b. normal_some b (normal_form d)) (p.1 refl) ∙ ap some_doc p.0) o h
 
 -- the field of a row
-field_settled : (m : Mark) (k : Kind) (o : Option (Bool × (Kind → Option Doc))) → IfSome o (λ p. ReadsSettled p.0 p.1) → IfSome (fits m k o) IsSettled
-unfolding settle
-field_settled required k None h = tt
-field_settled required k (Some p) h = only_settled p.0 (p.1 k) (h k)
-field_settled optional k None h = refl
-field_settled optional k (Some p) h = optional_settled p.0 (p.1 k) (h k)
-field_settled nullable k None h = refl
-field_settled nullable k (Some p) h = optional_settled p.0 (p.1 k) (h k)
-field_settled defaulted k None h = empty_settled k
-field_settled defaulted k (Some p) h = only_settled p.0 (p.1 k) (h k)
+field_normal : (m : Mark) (k : Kind) (o : Option (Bool × (Kind → Option Doc))) → IfSome o (λ p. ReadsNormal p.0 p.1) → IfSome (fits m k o) IsNormal
+unfolding normal_form
+field_normal required k None h = tt
+field_normal required k (Some p) h = only_normal p.0 (p.1 k) (h k)
+field_normal optional k None h = refl
+field_normal optional k (Some p) h = optional_normal p.0 (p.1 k) (h k)
+field_normal nullable k None h = refl
+field_normal nullable k (Some p) h = optional_normal p.0 (p.1 k) (h k)
+field_normal defaulted k None h = empty_normal k
+field_normal defaulted k (Some p) h = only_normal p.0 (p.1 k) (h k)
 
 -- the fields of a table's rows
-rows_settled : (rs : List Row) (ps : Parts) → PartsSettle ps → IfSome (read_rows rs ps) AreSettled
-unfolding settle_docs
-rows_settled [] ps h = refl
-rows_settled (r ∷ rs) ps h = both_settled (fits r.mark r.kind (part r.name ps)) (read_rows rs ps) (field_settled r.mark r.kind (part r.name ps) (part_settles r.name ps h)) (rows_settled rs ps h)
+rows_normal : (rs : List Row) (ps : Parts) → PartsReadNormal ps → IfSome (read_rows rs ps) AreNormal
+unfolding normal_docs
+rows_normal [] ps h = refl
+rows_normal (r ∷ rs) ps h = both_normal (fits r.mark r.kind (part r.name ps)) (read_rows rs ps) (field_normal r.mark r.kind (part r.name ps) (part_normal r.name ps h)) (rows_normal rs ps h)
 
 -- the members, where there is one
-some_if_any_settled : (ms : Members) → settled_extensions (some_if_any ms) ≡ some_if_any ms
-some_if_any_settled no_members = refl
-some_if_any_settled (member k d ms) = refl
+some_if_any_normal : (ms : Members) → normal_extensions (some_if_any ms) ≡ some_if_any ms
+some_if_any_normal no_members = refl
+some_if_any_normal (member k d ms) = refl
 
 -- the extensions of an object
-extensions_settled : (kept : Bool) (ms : Members) → settled_extensions (extensions_of kept ms) ≡ extensions_of kept ms
-extensions_settled true ms = some_if_any_settled (extension_members ms)
-extensions_settled false ms = refl
+extensions_normal : (kept : Bool) (ms : Members) → normal_extensions (extensions_of kept ms) ≡ extensions_of kept ms
+extensions_normal true ms = some_if_any_normal (extension_members ms)
+extensions_normal false ms = refl
 
 -- an object of a type
-table_stays : (n : ObjectType) (ms : Members) (ps : Parts) → PartsSettle ps → IfSome (read_table n ms ps) (Stays false)
-unfolding settle write
+table_stays : (n : ObjectType) (ms : Members) (ps : Parts) → PartsReadNormal ps → IfSome (read_table n ms ps) (Stays false)
+unfolding normal_form write
 table_stays n ms ps h =
     let e = extensions_of (has_extensions n) ms in
-    if_map AreSettled (Stays false) (λ ds. table_doc n ds e) (λ ds p. (ap (λ xs. table_doc n xs (settled_extensions e)) p ∙ ap (table_doc n ds) (extensions_settled (has_extensions n) ms), λ q. refl))
-    (read_rows (table n) ps) (rows_settled (table n) ps h)
+    if_map AreNormal (Stays false) (λ ds. table_doc n ds e) (λ ds p. (ap (λ xs. table_doc n xs (normal_extensions e)) p ∙ ap (table_doc n ds) (extensions_normal (has_extensions n) ms), λ q. refl))
+    (read_rows (table n) ps) (rows_normal (table n) ps h)
 
 -- ---- choices
 
 -- a schema
-schema_stays : (ms : Members) (ps : Parts) → PartsSettle ps → IfSome (read_schema ms ps) (Stays false)
-unfolding settle write
+schema_stays : (ms : Members) (ps : Parts) → PartsReadNormal ps → IfSome (read_schema ms ps) (Stays false)
+unfolding normal_form write
 schema_stays ms ps h =
     let typed = is_named (codes "type") ms in
     let bare = not (list_any (λ name. is_named name ms) schema_keywords) in
@@ -230,71 +230,71 @@ schema_stays ms ps h =
     (if_only (Stays false) bare _ (table_stays object_schema ms ps h)))))))
 
 -- a reference, or else what the place holds
-ref_or_stays : (k : Kind) (own : Option Doc) (ms : Members) (ps : Parts) → PartsSettle ps → IfSome own (Stays false) → IfSome (read_ref_or k own ms ps) (Stays false)
-unfolding settle write
+ref_or_stays : (k : Kind) (own : Option Doc) (ms : Members) (ps : Parts) → PartsReadNormal ps → IfSome own (Stays false) → IfSome (read_ref_or k own ms ps) (Stays false)
+unfolding normal_form write
 ref_or_stays k own ms ps h o =
     if_else (Stays false) _ _ (if_map (Stays false) (Stays false) (ref_doc k) (λ d p. (ap (ref_doc k) p.0, p.1)) (read_table reference_object ms ps) (table_stays reference_object ms ps h)) (own_stays false own o)
 
 -- an alternative that is a type
-alternative_stays : (ms : Members) (ps : Parts) → PartsSettle ps → ReadsSettled false (read_alternative ms ps)
+alternative_stays : (ms : Members) (ps : Parts) → PartsReadNormal ps → ReadsNormal false (read_alternative ms ps)
 alternative_stays ms ps h (named n) = table_stays n ms ps h
 alternative_stays ms ps h k = tt
 
 -- the alternative that a member chooses
-tagged_stays : (name : List ℕ) (choices : List (List ℕ × Kind)) (f : Kind → Option Doc) (ms : Members) → ReadsSettled false f → IfSome (read_tagged name choices f ms) (Stays false)
-unfolding settle write
+tagged_stays : (name : List ℕ) (choices : List (List ℕ × Kind)) (f : Kind → Option Doc) (ms : Members) → ReadsNormal false f → IfSome (read_tagged name choices f ms) (Stays false)
+unfolding normal_form write
 tagged_stays name choices f ms h =
     if_then (Stays false) _
     (λ word. if_then (Stays false) _ (λ k. if_map (Stays false) (Stays false) (tagged_doc name word) (λ d p. (ap (tagged_doc name word) p.0, λ q. with_null name (string word) (write d) ∙ p.1 q)) (f k) (h k)) (chosen word choices))
     (text_at name ms)
 
 -- an API key
-api_key_stays : (ms : Members) (ps : Parts) → PartsSettle ps → IfSome (read_api_key ms ps) (Stays false)
+api_key_stays : (ms : Members) (ps : Parts) → PartsReadNormal ps → IfSome (read_api_key ms ps) (Stays false)
 api_key_stays ms ps h = tagged_stays (codes "in") api_key_places (read_alternative ms ps) ms (alternative_stays ms ps h)
 
 -- an alternative of a security scheme
-scheme_stays : (ms : Members) (ps : Parts) → PartsSettle ps → ReadsSettled false (read_scheme ms ps)
+scheme_stays : (ms : Members) (ps : Parts) → PartsReadNormal ps → ReadsNormal false (read_scheme ms ps)
 scheme_stays ms ps h api_key = api_key_stays ms ps h
 scheme_stays ms ps h k = alternative_stays ms ps h k
 
 -- a flow
-flow_settled : (b : Bool) (o : Option ObjectType) (f : Kind → Option Doc) → ReadsSettled b f → IfSome (read_flow o f) IsSettled
-unfolding settle
-flow_settled b (Some n) f h = if_map (Stays b) IsSettled flow_doc (λ d p. ap flow_doc p.0) (f (named n)) (h (named n))
-flow_settled b None f h =
-    if_map (Stays b) IsSettled flow_doc (λ d p. ap flow_doc p.0) _
+flow_normal : (b : Bool) (o : Option ObjectType) (f : Kind → Option Doc) → ReadsNormal b f → IfSome (read_flow o f) IsNormal
+unfolding normal_form
+flow_normal b (Some n) f h = if_map (Stays b) IsNormal flow_doc (λ d p. ap flow_doc p.0) (f (named n)) (h (named n))
+flow_normal b None f h =
+    if_map (Stays b) IsNormal flow_doc (λ d p. ap flow_doc p.0) _
     (if_else (Stays b) _ _ (h (named implicit_flow))
     (if_else (Stays b) _ _ (h (named password_flow))
     (if_else (Stays b) _ _ (h (named client_credentials_flow))
     (if_else (Stays b) _ _ (h (named authorization_code_flow)) (h (named device_authorization_flow))))))
 
 -- the flows of an object
-flows_settled : (ps : Parts) → PartsSettle ps → IfSome (read_flows ps) EntriesSettled
-unfolding settle_entries
-flows_settled [] h = refl
-flows_settled (p ∷ ps) h = both_entries_settled p.0 (read_flow (chosen p.0 flow_keys) p.1.1) (read_flows ps) (flow_settled p.1.0 (chosen p.0 flow_keys) p.1.1 h.0) (flows_settled ps h.1)
+flows_normal : (ps : Parts) → PartsReadNormal ps → IfSome (read_flows ps) EntriesNormal
+unfolding normal_entries
+flows_normal [] h = refl
+flows_normal (p ∷ ps) h = both_entries_normal p.0 (read_flow (chosen p.0 flow_keys) p.1.1) (read_flows ps) (flow_normal p.1.0 (chosen p.0 flow_keys) p.1.1 h.0) (flows_normal ps h.1)
 
 -- ---- arrays and objects
 
 -- an array
-array_stays : (ds : Items) (rs : List (Kind → Option Doc)) → ItemsSettle rs → ReadsSettled false (read_array ds rs)
-unfolding settle write
+array_stays : (ds : Items) (rs : List (Kind → Option Doc)) → ItemsReadNormal rs → ReadsNormal false (read_array ds rs)
+unfolding normal_form write
 array_stays ds rs h any = (refl, λ n. refl)
-array_stays ds rs h (list_of k) = if_map AreSettled (Stays false) list_doc (λ x p. (ap list_doc p, λ n. refl)) (read_items k rs) (items_settled k rs h)
+array_stays ds rs h (list_of k) = if_map AreNormal (Stays false) list_doc (λ x p. (ap list_doc p, λ n. refl)) (read_items k rs) (items_normal k rs h)
 array_stays ds rs h schema_type =
-    if_map AreSettled (Stays false) (λ ws. types_doc (list_doc ws)) (λ x p. (ap (λ ws. types_doc (list_doc ws)) p, λ n. refl)) (read_items (word_of type_word) rs) (items_settled (word_of type_word) rs h)
+    if_map AreNormal (Stays false) (λ ws. types_doc (list_doc ws)) (λ x p. (ap (λ ws. types_doc (list_doc ws)) p, λ n. refl)) (read_items (word_of type_word) rs) (items_normal (word_of type_word) rs h)
 array_stays ds rs h (ref_or k) = own_stays false (read_array ds rs k) (array_stays ds rs h k)
 array_stays ds rs h k = tt
 
 -- an object
-object_stays : (ms : Members) (ps : Parts) → PartsSettle ps → ReadsSettled false (read_object ms ps)
-unfolding settle write
+object_stays : (ms : Members) (ps : Parts) → PartsReadNormal ps → ReadsNormal false (read_object ms ps)
+unfolding normal_form write
 object_stays ms ps h any = (refl, λ n. refl)
-object_stays ms ps h (map_of k) = if_map EntriesSettled (Stays false) map_doc (λ x p. (ap map_doc p, λ n. refl)) (read_entries k ps) (entries_settled k ps h)
+object_stays ms ps h (map_of k) = if_map EntriesNormal (Stays false) map_doc (λ x p. (ap map_doc p, λ n. refl)) (read_entries k ps) (entries_normal k ps h)
 object_stays ms ps h (entries_of k) =
     let e = extensions_of true ms in
-    if_map EntriesSettled (Stays false) (λ es. entries_doc es e) (λ es p. (ap (λ xs. entries_doc xs (settled_extensions e)) p ∙ ap (entries_doc es) (extensions_settled true ms), λ n. refl))
-    (read_entries k (entry_parts ps)) (entries_settled k (entry_parts ps) (entry_parts_settle ps h))
+    if_map EntriesNormal (Stays false) (λ es. entries_doc es e) (λ es p. (ap (λ xs. entries_doc xs (normal_extensions e)) p ∙ ap (entries_doc es) (extensions_normal true ms), λ n. refl))
+    (read_entries k (entry_parts ps)) (entries_normal k (entry_parts ps) (entry_parts_normal ps h))
 object_stays ms ps h (ref_or k) = ref_or_stays k (read_object ms ps k) ms ps h (object_stays ms ps h k)
 object_stays ms ps h (named n) = table_stays n ms ps h
 object_stays ms ps h schema = schema_stays ms ps h
@@ -302,34 +302,34 @@ object_stays ms ps h array_items = ref_or_stays schema (read_schema ms ps) ms ps
 object_stays ms ps h additional_properties = ref_or_stays schema (read_schema ms ps) ms ps h (schema_stays ms ps h)
 object_stays ms ps h security_scheme = tagged_stays (codes "type") scheme_types (read_scheme ms ps) ms (scheme_stays ms ps h)
 object_stays ms ps h api_key = api_key_stays ms ps h
-object_stays ms ps h flows = if_map EntriesSettled (Stays false) map_doc (λ x p. (ap map_doc p, λ n. refl)) (read_flows ps) (flows_settled ps h)
+object_stays ms ps h flows = if_map EntriesNormal (Stays false) map_doc (λ x p. (ap map_doc p, λ n. refl)) (read_flows ps) (flows_normal ps h)
 object_stays ms ps h k = tt
 
 mutual
   unfolding reader item_readers parts
 
   -- what is read of a tree
-  tree_stays : (t : Data) → ReadsSettled (is_null t) (reader t)
+  tree_stays : (t : Data) → ReadsNormal (is_null t) (reader t)
   tree_stays null = null_stays
   tree_stays (boolean b) = boolean_stays b
   tree_stays (number n) = number_stays n
   tree_stays (string s) = string_stays s
-  tree_stays (array ds) = array_stays ds (item_readers ds) (item_readers_settle ds)
-  tree_stays (object ms) = object_stays ms (parts ms) (parts_settle ms)
+  tree_stays (array ds) = array_stays ds (item_readers ds) (item_readers_normal ds)
+  tree_stays (object ms) = object_stays ms (parts ms) (parts_normal ms)
 
   -- what is read of items
-  item_readers_settle : (ds : Items) → ItemsSettle (item_readers ds)
-  item_readers_settle no_items = tt
-  item_readers_settle (item d ds) = (λ k. only_settled (is_null d) (reader d k) (tree_stays d k), item_readers_settle ds)
+  item_readers_normal : (ds : Items) → ItemsReadNormal (item_readers ds)
+  item_readers_normal no_items = tt
+  item_readers_normal (item d ds) = (λ k. only_normal (is_null d) (reader d k) (tree_stays d k), item_readers_normal ds)
 
   -- what is read of members
-  parts_settle : (ms : Members) → PartsSettle (parts ms)
-  parts_settle no_members = tt
-  parts_settle (member k d ms) = (tree_stays d, parts_settle ms)
+  parts_normal : (ms : Members) → PartsReadNormal (parts ms)
+  parts_normal no_members = tt
+  parts_normal (member k d ms) = (tree_stays d, parts_normal ms)
 
--- what is read is settled
-pub read_settled : (k : Kind) (t : Data) (d : Doc) → read k t ≡ Some d → settle d ≡ d
-read_settled k t d e = (if_is (Stays (is_null t)) (reader t k) d (tree_stays t k) e).0
+-- what is read is in normal form
+pub read_normal : (k : Kind) (t : Data) (d : Doc) → read k t ≡ Some d → normal_form d ≡ d
+read_normal k t d e = (if_is (Stays (is_null t)) (reader t k) d (tree_stays t k) e).0
 
 -- what is read of a tree that is not null is not written as null
 pub read_not_null : (k : Kind) (t : Data) (d : Doc) → is_null t ≡ false → read k t ≡ Some d → is_null (write d) ≡ false

@@ -14,9 +14,9 @@ use Rattle.utoipa_base.specs.Extensions.{is_extension, extension_members, all_ex
 use Rattle.utoipa_base.specs.Reading.{reader, parts, part, entry_parts, Parts, is_null, fits, read_rows, both}
 use Rattle.utoipa_base.specs.Writing.{write, write_rows, write_entries, left_out, put_row, put_unless, merge_member, merge_members}
 use Rattle.utoipa_base.specs.Fields.{field_of}
-use Rattle.utoipa_base.specs.Settled.{settled_extensions}
+use Rattle.utoipa_base.specs.NormalForm.{normal_extensions}
 use Rattle.utoipa_base.specs.Shape.{Extends}
-use Rattle.utoipa_base.specs.Tidy.{AllExtensions, no_extension}
+use Rattle.utoipa_base.specs.WellFormed.{AllExtensions, no_extension}
 use Rattle.utoipa_base.proofs.Tests.{and_first, and_second, or_first, or_second, not_true, apart}
 use Rattle.utoipa_base.proofs.TableNames.{is_row, is_wanted, is_required, are_apart, first_plain, others_apart}
 
@@ -191,11 +191,11 @@ all_extensions-same no_members h = refl
 all_extensions-same (member k d ms) h =
     ap (λ b. cond b (member k d (extension_members ms)) (extension_members ms)) (and_first (is_extension k) (all_extensions ms) h) ∙ ap (member k d) (all_extensions-same ms (and_second _ _ h))
 
--- members that are all kept are settled extensions
-pub some_if_any-settled : (e : Option Members) → some_if_any (members_or_none e) ≡ settled_extensions e
-some_if_any-settled None = refl
-some_if_any-settled (Some no_members) = refl
-some_if_any-settled (Some (member k d ms)) = refl
+-- members that are all kept are in normal form extensions
+pub some_if_any-normal : (e : Option Members) → some_if_any (members_or_none e) ≡ normal_extensions e
+some_if_any-normal None = refl
+some_if_any-normal (Some no_members) = refl
+some_if_any-normal (Some (member k d ms)) = refl
 
 -- no members have no extensions
 none_extends : (kept : Bool) → extensions_of kept no_members ≡ None
@@ -203,10 +203,10 @@ none_extends true = refl
 none_extends false = refl
 
 -- the extensions of a type that keeps them are found again
-pub extensions-settled : (kept : Bool) (e : Option Members) → Extends kept e → AllExtensions e → extensions_of kept (members_or_none e) ≡ settled_extensions e
-extensions-settled kept None h x = none_extends kept
-extensions-settled true (Some ms) h x = ap some_if_any (all_extensions-same ms x) ∙ some_if_any-settled (Some ms)
-extensions-settled false (Some ms) h x = absurd (true≢false (sym h))
+pub extensions-normal : (kept : Bool) (e : Option Members) → Extends kept e → AllExtensions e → extensions_of kept (members_or_none e) ≡ normal_extensions e
+extensions-normal kept None h x = none_extends kept
+extensions-normal true (Some ms) h x = ap some_if_any (all_extensions-same ms x) ∙ some_if_any-normal (Some ms)
+extensions-normal false (Some ms) h x = absurd (true≢false (sym h))
 
 -- ---- the entries and the extensions of one object
 

@@ -7,12 +7,13 @@ pub mod Tables
 pub mod Extensions
 pub mod Reading
 pub mod Writing
-pub mod Settled
+pub mod NormalForm
 pub mod Shape
-pub mod Tidy
+pub mod WellFormed
 pub mod Values
 pub mod Fields
 pub mod Faults
 pub mod Views
 pub mod Refs
 pub mod OfKind
+pub mod Lists

@@ -50,41 +50,41 @@ are_distinct (n ∷ ns) = not (is_one_of n ns) && are_distinct ns
 -- ---- the schema places of a document: schemas, and references in the place of one
 
 -- how many schema places a reference is, in the place of a kind
-abbrev pub reference_places : Kind → ℕ
-reference_places schema = 1
-reference_places k = 0
+abbrev pub reference_schema_count : Kind → ℕ
+reference_schema_count schema = 1
+reference_schema_count k = 0
 
 unfoldable mutual
-  pub schema_places : Doc → ℕ
-  schema_places (text_doc s) = 0
-  schema_places (flag_doc b) = 0
-  schema_places (whole_doc n) = 0
-  schema_places (int_doc z) = 0
-  schema_places (uint_doc n) = 0
-  schema_places (tree_doc d) = 0
-  schema_places (word_doc s) = 0
-  schema_places (custom_doc s) = 0
-  schema_places (types_doc d) = 0
-  schema_places any_value_doc = 0
-  schema_places none_doc = 0
-  schema_places (some_doc d) = schema_places d
-  schema_places (ref_doc k d) = reference_places k
-  schema_places (own_doc d) = schema_places d
-  schema_places (schema_doc d) = 1 + schema_places d
-  schema_places (tagged_doc name word d) = schema_places d
-  schema_places (flow_doc d) = schema_places d
-  schema_places (list_doc ds) = docs_places ds
-  schema_places (map_doc es) = entries_places es
-  schema_places (entries_doc es e) = entries_places es
-  schema_places (table_doc n ds e) = docs_places ds
+  pub schema_count : Doc → ℕ
+  schema_count (text_doc s) = 0
+  schema_count (flag_doc b) = 0
+  schema_count (whole_doc n) = 0
+  schema_count (int_doc z) = 0
+  schema_count (uint_doc n) = 0
+  schema_count (tree_doc d) = 0
+  schema_count (word_doc s) = 0
+  schema_count (custom_doc s) = 0
+  schema_count (types_doc d) = 0
+  schema_count any_value_doc = 0
+  schema_count none_doc = 0
+  schema_count (some_doc d) = schema_count d
+  schema_count (ref_doc k d) = reference_schema_count k
+  schema_count (own_doc d) = schema_count d
+  schema_count (schema_doc d) = 1 + schema_count d
+  schema_count (tagged_doc name word d) = schema_count d
+  schema_count (flow_doc d) = schema_count d
+  schema_count (list_doc ds) = docs_schema_count ds
+  schema_count (map_doc es) = entries_schema_count es
+  schema_count (entries_doc es e) = entries_schema_count es
+  schema_count (table_doc n ds e) = docs_schema_count ds
 
-  pub docs_places : Docs → ℕ
-  docs_places no_docs = 0
-  docs_places (doc d ds) = schema_places d + docs_places ds
+  pub docs_schema_count : Docs → ℕ
+  docs_schema_count no_docs = 0
+  docs_schema_count (doc d ds) = schema_count d + docs_schema_count ds
 
-  pub entries_places : Entries → ℕ
-  entries_places no_entries = 0
-  entries_places (entry k d es) = schema_places d + entries_places es
+  pub entries_schema_count : Entries → ℕ
+  entries_schema_count no_entries = 0
+  entries_schema_count (entry k d es) = schema_count d + entries_schema_count es
 
 -- whether a place of the kind is a schema's
 abbrev pub is_schema : Kind → Bool

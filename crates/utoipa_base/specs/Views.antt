@@ -1,5 +1,5 @@
 -- The documents of texts, options, lists and maps.
-use Rattle.std.specs.Prelude.{ℕ, List, Option, option_map, map, String, string_bytes, Vec}
+use Rattle.std.specs.Prelude.{ℕ, List, [], Option, None, Some, option_map, map, String, string_bytes, Vec}
 use Rattle.std.specs.BTreeMap.{BTreeMap}
 use Rattle.std.specs.declared.alloc.Global.{Global}
 use Rattle.serde_json.specs.View.{view}
@@ -24,3 +24,8 @@ pairs_of f es = map (λ e. (string_bytes e.0, f e.1)) es
 
 abbrev pub map_of_docs : {X : Type 0} → (X → Doc) → BTreeMap (String Global) X → Doc
 map_of_docs f m = map_doc (entries_of_list (pairs_of f m.entries))
+
+-- the entries of a map that may be absent
+abbrev pub entries_or_none : {X : Type 0} → Option (BTreeMap (String Global) X) → List (String Global × X)
+entries_or_none None = []
+entries_or_none (Some m) = m.entries

@@ -7,7 +7,7 @@ ghost use Rattle.utoipa_base.specs.Faults.{Refuses};
 ghost use Rattle.utoipa_base.specs.Fields.{field, put_field};
 ghost use Rattle.utoipa_base.specs.Reading.{empty_doc};
 ghost use Rattle.utoipa_base.specs.Tables.{row};
-ghost use Rattle.utoipa_base.specs.Values.{values_of, schema_places};
+ghost use Rattle.utoipa_base.specs.Values.{values_of, schema_count};
 ghost use Rattle.utoipa_base.specs.Writing.{is_empty};
 
 use crate::fault::ReadFault;
@@ -89,7 +89,7 @@ pub fn row_or_empty<T: Empty>(
     ensures grows { readings.old ≤ readings.new }
     ensures at_most { readings.new ≤ readings.old + values_of (get name.now (view tree.now)) }
     ensures at_least { IfOk result (λ v. readings.new < u64.MAX
-        → readings.old + schema_places (T.doc v) ≤ readings.new) }
+        → readings.old + schema_count (T.doc v) ≤ readings.new) }
 {
     match tree.get(name) {
         Some(member) => T::read_plain(alloc, member, readings),

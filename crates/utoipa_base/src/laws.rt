@@ -6,36 +6,36 @@ ghost use Rattle.serde_json.specs.View.{view};
 ghost use Rattle.serde_json.specs.Written.{has_float};
 ghost use Rattle.utoipa_base.specs.Docs.{Doc};
 ghost use Rattle.utoipa_base.specs.Reading.{read};
-ghost use Rattle.utoipa_base.specs.Settled.{settle};
+ghost use Rattle.utoipa_base.specs.NormalForm.{normal_form};
 ghost use Rattle.utoipa_base.specs.Shape.{IsOf, value_of};
-ghost use Rattle.utoipa_base.specs.Tidy.{IsPlain, IsTidy, IsTidyInside, Reads};
+ghost use Rattle.utoipa_base.specs.WellFormed.{IsPlain, IsWellFormed, IsWellNamed, Reads};
 ghost use Rattle.utoipa_base.specs.Values.{values, names_values, are_distinct};
 ghost use Rattle.utoipa_base.specs.Writing.{write};
 
 use crate::tree::Tree;
 use serde_json::Value;
 
-/// A tidy value reads back from its own tree as its settled form. It need not be plain for its tree to read so.
+/// A well-formed value reads back from its own tree as its normal form. It need not be plain for its tree to read so.
 pub fn reads_back<T: Tree>(value: &T)
-    ensures tidy { IsTidy (T.doc value.now) → Reads T.kind (write (T.doc value.now)) (settle (T.doc value.now)) }
-    ensures with_fractions { IsTidyInside (T.doc value.now)
-        → read T.kind (write (T.doc value.now)) ≡ Some (settle (T.doc value.now)) }
+    ensures well_formed { IsWellFormed (T.doc value.now) → Reads T.kind (write (T.doc value.now)) (normal_form (T.doc value.now)) }
+    ensures with_fractions { IsWellNamed (T.doc value.now)
+        → read T.kind (write (T.doc value.now)) ≡ Some (normal_form (T.doc value.now)) }
 {}
 
-/// What is read from a tree is settled.
+/// What is read from a tree is in normal form.
 pub fn what_is_read<T: Tree>(tree: &Value)
-    ensures { (d : Doc) → read T.kind (view tree.now) ≡ Some d → settle d ≡ d }
+    ensures { (d : Doc) → read T.kind (view tree.now) ≡ Some d → normal_form d ≡ d }
 {}
 
-/// Settling twice is settling once.
-pub fn settled_twice<T: Tree>(value: &T)
-    ensures { settle (settle (T.doc value.now)) ≡ settle (T.doc value.now) }
+/// The normal form of a normal form is itself.
+pub fn normal_form_twice<T: Tree>(value: &T)
+    ensures { normal_form (normal_form (T.doc value.now)) ≡ normal_form (T.doc value.now) }
 {}
 
-/// Two tidy values that are written as one tree have one settled form.
-pub fn one_settled_form<T: Tree>(left: &T, right: &T)
-    ensures { IsTidyInside (T.doc left.now) → IsTidyInside (T.doc right.now)
-        → write (T.doc left.now) ≡ write (T.doc right.now) → settle (T.doc left.now) ≡ settle (T.doc right.now) }
+/// Two well-formed values that are written as one tree have one normal form.
+pub fn one_normal_form<T: Tree>(left: &T, right: &T)
+    ensures { IsWellNamed (T.doc left.now) → IsWellNamed (T.doc right.now)
+        → write (T.doc left.now) ≡ write (T.doc right.now) → normal_form (T.doc left.now) ≡ normal_form (T.doc right.now) }
 {}
 
 /// What is read from a plain tree is plain, and is written as a plain tree.

@@ -7,6 +7,7 @@ pub mod extensions;
 pub mod fault;
 pub mod fraction;
 pub mod laws;
+pub mod lists;
 pub mod readings;
 pub mod refs;
 pub mod rows;
@@ -23,6 +24,7 @@ pub use extensions::{
 };
 pub use fault::ReadFault;
 pub use fraction::{has_fraction, members_have_fraction};
+pub use lists::{list_from, list_if_any};
 pub use readings::{Counted, Readings};
 pub use refs::{Ref, RefOr};
 pub use rows::{

@@ -7,7 +7,7 @@ ghost use Rattle.utoipa_base.specs.Docs.{option_doc};
 ghost use Rattle.utoipa_base.specs.Faults.{Refuses};
 ghost use Rattle.utoipa_base.specs.Fields.{field, present, put_field};
 ghost use Rattle.utoipa_base.specs.Tables.{row};
-ghost use Rattle.utoipa_base.specs.Values.{values_of, schema_places};
+ghost use Rattle.utoipa_base.specs.Values.{values_of, schema_count};
 ghost use Rattle.utoipa_base.specs.Views.{option_of};
 
 use crate::fault::ReadFault;
@@ -29,7 +29,7 @@ pub fn row_required<T: Tree>(
     ensures grows { readings.old ≤ readings.new }
     ensures at_most { readings.new ≤ readings.old + values_of (get name.now (view tree.now)) }
     ensures at_least { IfOk result (λ v. readings.new < u64.MAX
-        → readings.old + schema_places (T.doc v) ≤ readings.new) }
+        → readings.old + schema_count (T.doc v) ≤ readings.new) }
 {
     match tree.get(name) {
         Some(member) => T::read_plain(alloc, member, readings),
@@ -50,7 +50,7 @@ pub fn row_option<T: Tree>(
     ensures grows { readings.old ≤ readings.new }
     ensures at_most { readings.new ≤ readings.old + values_of (get name.now (view tree.now)) }
     ensures at_least { IfOk result (λ o. readings.new < u64.MAX
-        → readings.old + schema_places (option_of T.doc o) ≤ readings.new) }
+        → readings.old + schema_count (option_of T.doc o) ≤ readings.new) }
 {
     match tree.get(name) {
         Some(member) => {
@@ -76,7 +76,7 @@ pub fn row_default<T: Tree>(
     ensures grows { readings.old ≤ readings.new }
     ensures at_most { readings.new ≤ readings.old + values_of (get name.now (view tree.now)) }
     ensures at_least { IfOk result (λ o. readings.new < u64.MAX
-        → readings.old + schema_places (option_of T.doc o) ≤ readings.new) }
+        → readings.old + schema_count (option_of T.doc o) ≤ readings.new) }
 {
     match tree.get(name) {
         Some(member) => Ok(Some(T::read_plain(alloc, member, readings)?)),

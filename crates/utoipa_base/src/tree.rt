@@ -7,7 +7,7 @@ ghost use Rattle.utoipa_base.specs.Faults.{Refuses};
 ghost use Rattle.utoipa_base.specs.Reading.{read};
 ghost use Rattle.utoipa_base.specs.Refs.{reference_doc, ref_or_doc};
 ghost use Rattle.utoipa_base.specs.Shape.{IsOf, value_of};
-ghost use Rattle.utoipa_base.specs.Values.{values, schema_places, is_schema};
+ghost use Rattle.utoipa_base.specs.Values.{values, schema_count, is_schema};
 ghost use Rattle.utoipa_base.specs.Views.{text_of, tree_of, list_of_docs, map_of_docs};
 ghost use Rattle.utoipa_base.specs.OfKind.{text_of_kind, flag_of_kind, whole_of_kind, tree_of_kind, list_of_kind, map_of_kind, reference_of_kind, ref_or_of_kind};
 ghost use Rattle.utoipa_base.specs.Writing.{write};
@@ -26,7 +26,7 @@ use std::collections::BTreeMap;
 /// A type whose values are read from JSON trees and written as JSON trees.
 ///
 /// A type names what it is by two ghost members: `kind`, by which a tree is read, and `doc`, its value as the document
-/// that the definitions of reading, writing, settled form and tidiness speak of.
+/// that the definitions of reading, writing, normal form and well-formedness speak of.
 pub trait Tree: Drop {
     ghost kind: { Kind };
 
@@ -45,7 +45,7 @@ pub trait Tree: Drop {
         ensures err { IfErr result (Refuses (read kind (view tree.now))) }
         ensures grows { readings.old ≤ readings.new }
         ensures at_most { readings.new ≤ readings.old + values (view tree.now) }
-        ensures at_least { IfOk result (λ v. readings.new < u64.MAX → readings.old + schema_places (doc v) ≤ readings.new) };
+        ensures at_least { IfOk result (λ v. readings.new < u64.MAX → readings.old + schema_count (doc v) ≤ readings.new) };
 
     /// Reads the tree as a reference, or else as a value of the type.
     #[tactic(auto, using(crate::proofs::Places::by_places))]
@@ -59,7 +59,7 @@ pub trait Tree: Drop {
         ensures grows { readings.old ≤ readings.new }
         ensures at_most { readings.new ≤ readings.old + values (view tree.now) }
         ensures at_least { IfOk result (λ r. readings.new < u64.MAX
-            → readings.old + schema_places (ref_or_doc kind doc r) ≤ readings.new) }
+            → readings.old + schema_count (ref_or_doc kind doc r) ≤ readings.new) }
     {
         match read_reference(alloc, tree) {
             Ok(reference) => {
@@ -113,7 +113,7 @@ pub trait Tree: Drop {
             → Refuses (read kind (view tree.now)) e) }
         ensures uncounted { has_float (view tree.now) ≡ true → result.readings ≡ 0 }
         ensures at_most { result.readings ≤ values (view tree.now) }
-        ensures at_least { IfOk result.outcome (λ v. result.readings < u64.MAX → schema_places (doc v) ≤ result.readings) }
+        ensures at_least { IfOk result.outcome (λ v. result.readings < u64.MAX → schema_count (doc v) ≤ result.readings) }
     {
         if has_fraction(tree) {
             return Counted {

@@ -2,8 +2,8 @@ use Rattle.utoipa_base.proofs.Plain.{write_plain}
 use Rattle.utoipa_base.proofs.ReadsBack.{reads_back}
 use Rattle.utoipa_base.proofs.laws.reads_back.Goals as goal
 
-pub returns-clause-tidy : goal.returns-clause-tidy
-returns-clause-tidy g c =
+pub returns-clause-well_formed : goal.returns-clause-well_formed
+returns-clause-well_formed g c =
     let d = g.T.Tree.doc c.args.value.now in
     λ h. (write_plain d h.0, reads_back d g.T.Tree.kind (g.met.T.Tree.is_of_kind c.args.value.now) h.1)
 

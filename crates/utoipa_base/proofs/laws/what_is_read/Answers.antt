@@ -1,6 +1,6 @@
 use Rattle.serde_json.specs.View.{view}
-use Rattle.utoipa_base.proofs.WhatIsRead.{read_settled}
+use Rattle.utoipa_base.proofs.WhatIsRead.{read_normal}
 use Rattle.utoipa_base.proofs.laws.what_is_read.Goals as goal
 
 pub returns : goal.returns
-returns g c = read_settled g.T.Tree.kind (view c.args.tree.now)
+returns g c = read_normal g.T.Tree.kind (view c.args.tree.now)

@@ -7,10 +7,10 @@ use Rattle.serde_json.specs.Find.{as_object}
 use Rattle.serde_json.specs.View.{view, members_view}
 use Rattle.utoipa_base.specs.Views.{pairs_of}
 use Rattle.utoipa_base.proofs.ByRows.{passes_on}
-use Rattle.utoipa_base.proofs.Values.{members_values-cons, object_values, entries_places-last}
-use Rattle.utoipa_base.proofs.Places.{counted_more, entries_places-none, schema_places-map}
+use Rattle.utoipa_base.proofs.Values.{members_values-cons, object_values, entries_schema_count-last}
+use Rattle.utoipa_base.proofs.Places.{counted_more, entries_schema_count-none, schema_count-map}
 use Rattle.utoipa_base.specs.Docs.{entries_of_list}
-use Rattle.utoipa_base.specs.Values.{values, members_values, entries_places}
+use Rattle.utoipa_base.specs.Values.{values, members_values, entries_schema_count}
 use Rattle.utoipa_base.specs.Kinds.{map_of}
 use Rattle.utoipa_base.specs.Reading.{read}
 use Rattle.utoipa_base.proofs.Maps.{texts, entries_read, prepend_entries, insert_last, entries_read-step, entries_read-stop, entries_read-end, map_by_entries}
@@ -59,7 +59,7 @@ loop-key-preserved g c =
           omega (arith, now)),
       omega (arith, c.in_ok-value.ensures.grows, l.invariant.5),
       counted_more _ _ _ _ _ _ l.invariant.6 c.in_ok-value.ensures.grows c.in_ok-value.ensures.at_least
-          (ap (λ r. entries_places (entries_of_list r)) pairs ∙ entries_places-last ds (string_bytes e.0, d)),
+          (ap (λ r. entries_schema_count (entries_of_list r)) pairs ∙ entries_schema_count-last ds (string_bytes e.0, d)),
     )
 
 pub returns-clause-ok : goal.returns-clause-ok
@@ -123,11 +123,11 @@ pub loop-key-init : goal.loop-key-init
 loop-key-init g c =
     let es = c.into_iter-key-iterator.result in
     let empty : c.new-map.result.entries ≡ [] = search rules in
-    let none : entries_places (entries_of_list (pairs_of g.T.Tree.doc c.new-map.result.entries)) ≡ 0 =
-    ap (λ r. entries_places (entries_of_list (pairs_of g.T.Tree.doc r))) empty ∙ entries_places-none in
+    let none : entries_schema_count (entries_of_list (pairs_of g.T.Tree.doc c.new-map.result.entries)) ≡ 0 =
+    ap (λ r. entries_schema_count (entries_of_list (pairs_of g.T.Tree.doc r))) empty ∙ entries_schema_count-none in
     ([], refl, ap texts empty, ap (λ r. prepend_entries (pairs_of g.T.Tree.doc r) (entries_read g.T.Tree.kind es)) (sym empty), omega arith, omega arith, λ below. omega (arith, none))
 
 pub returns-clause-at_least : goal.returns-clause-at_least
 returns-clause-at_least g c =
-    let all = schema_places-map (entries_of_list (pairs_of g.T.Tree.doc c.loop-key.map.entries)) in
+    let all = schema_count-map (entries_of_list (pairs_of g.T.Tree.doc c.loop-key.map.entries)) in
     λ below. omega (arith, all, c.loop-key.invariant.6 below)

@@ -5,7 +5,7 @@ use Rattle.utoipa_base.specs.Kinds.{reference_object, named, ref_or}
 use Rattle.utoipa_base.specs.Docs.{ref_doc}
 use Rattle.utoipa_base.specs.Reading.{read}
 use Rattle.utoipa_base.specs.Refs.{reference_doc}
-use Rattle.utoipa_base.specs.Values.{schema_places, is_schema}
+use Rattle.utoipa_base.specs.Values.{schema_count, is_schema}
 use Rattle.utoipa_base.proofs.ByRows.{passes_on}
 use Rattle.utoipa_base.proofs.Places.{ref_reads, own_reads, own_none, own_places, reference_counted, reference_uncounted, refused, ticked_least}
 use Rattle.utoipa_base.proofs.tree.Tree.read_ref_or.Goals as goal

@@ -6,10 +6,10 @@ use Rattle.serde_json.specs.View.{view, items_view}
 use Rattle.utoipa_base.specs.Kinds.{list_of}
 use Rattle.utoipa_base.specs.Docs.{list_doc}
 use Rattle.utoipa_base.proofs.ByRows.{passes_on}
-use Rattle.utoipa_base.proofs.Values.{items_values-drop, array_values, docs_places-last}
-use Rattle.utoipa_base.proofs.Places.{counted_more, docs_places-none, schema_places-list}
+use Rattle.utoipa_base.proofs.Values.{items_values-drop, array_values, docs_schema_count-last}
+use Rattle.utoipa_base.proofs.Places.{counted_more, docs_schema_count-none, schema_count-list}
 use Rattle.utoipa_base.specs.Docs.{docs_of}
-use Rattle.utoipa_base.specs.Values.{items_values, docs_places, schema_places}
+use Rattle.utoipa_base.specs.Values.{items_values, docs_schema_count, schema_count}
 use Rattle.utoipa_base.specs.Reading.{read}
 use Rattle.utoipa_base.proofs.ByKind.{values_read, prepend, values_read-step, values_read-stop, values_read-end, drop_item, list_by_items}
 use Rattle.utoipa_base.proofs.tree.VecTree.read_plain.Goals as goal
@@ -38,8 +38,8 @@ loop-item-preserved g c =
     let within : l.item-index < length xs = omega arith in
     let split = drop_item xs l.item-index x within c.item-item.is in
     let more : map g.T.Tree.doc c.push.new.self.items ≡ ds ++ g.T.Tree.doc v ∷ [] = ap (map g.T.Tree.doc) c.in_ok-push.ensures.items ∙ map-append g.T.Tree.doc l.list.items (v ∷ []) in
-    let places : docs_places (docs_of (map g.T.Tree.doc c.push.new.self.items)) ≡ docs_places (docs_of ds) + schema_places (g.T.Tree.doc v) =
-    ap (λ es. docs_places (docs_of es)) more ∙ docs_places-last ds (g.T.Tree.doc v) in (
+    let places : docs_schema_count (docs_of (map g.T.Tree.doc c.push.new.self.items)) ≡ docs_schema_count (docs_of ds) + schema_count (g.T.Tree.doc v) =
+    ap (λ es. docs_schema_count (docs_of es)) more ∙ docs_schema_count-last ds (g.T.Tree.doc v) in (
       values_read-step k x (drop (l.item-index + 1) xs) ds (g.T.Tree.doc v) _ (l.invariant.0 ∙ ap (λ r. prepend ds (values_read k r)) split) c.in_ok-read_plain.ensures.ok
           ∙ ap (λ es. prepend es (values_read k (drop (l.item-index + 1) xs))) (sym more),
       omega (arith, items_values-drop xs l.item-index x within c.item-item.is),
@@ -88,10 +88,10 @@ pub loop-item-init : goal.loop-item-init
 loop-item-init g c =
     let xs = c.deref-item-items.result.now in
     let empty : c.new-list.result.items ≡ [] = search rules in
-    let none : docs_places (docs_of (map g.T.Tree.doc c.new-list.result.items)) ≡ 0 = ap (λ es. docs_places (docs_of (map g.T.Tree.doc es))) empty ∙ docs_places-none in
+    let none : docs_schema_count (docs_of (map g.T.Tree.doc c.new-list.result.items)) ≡ 0 = ap (λ es. docs_schema_count (docs_of (map g.T.Tree.doc es))) empty ∙ docs_schema_count-none in
     (ap (λ es. prepend (map g.T.Tree.doc es) (values_read g.T.Tree.kind xs)) (sym empty), omega arith, omega arith, λ below. omega (arith, none))
 
 pub returns-clause-at_least : goal.returns-clause-at_least
 returns-clause-at_least g c =
-    let all = schema_places-list (docs_of (map g.T.Tree.doc c.loop-item.list.items)) in
+    let all = schema_count-list (docs_of (map g.T.Tree.doc c.loop-item.list.items)) in
     λ below. omega (arith, all, c.loop-item.invariant.3 below)

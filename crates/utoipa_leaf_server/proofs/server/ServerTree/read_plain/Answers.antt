@@ -1,4 +1,4 @@
--- Written by tools/answers.py utoipa_leaf server Server
+-- Written by tools/answers.py utoipa_leaf_server server Server
 use Rattle.std.proofs.Common.{◌≡◌, ◌∙◌, is_some, true, sym, arith}
 use Rattle.serde_json.specs.Find.{as_object}
 use Rattle.serde_json.specs.View.{view}
@@ -6,7 +6,7 @@ use Rattle.utoipa_base.specs.Kinds.{server_object}
 use Rattle.utoipa_base.proofs.ByRows.{passes_on, table_refused, table_fits, fields-first, fields-later, fields-fit, fields-nil, read-no_object}
 use Rattle.utoipa_base.proofs.Places.{read_none, read_more, table_counted}
 use Rattle.utoipa_base.proofs.Values.{table_values}
-use Rattle.utoipa_leaf.proofs.server.ServerTree.read_plain.Goals as goal
+use Rattle.utoipa_leaf_server.proofs.server.ServerTree.read_plain.Goals as goal
 
 pub returns-then-not-is_object-clause-err : goal.returns-then-not-is_object-clause-err
 returns-then-not-is_object-clause-err c = read-no_object server_object _ (sym c.is_object.ensures ∙ c.if-not-is_object.true)
@@ -39,7 +39,7 @@ pub returns-in_err-extensions-clause-at_most : goal.returns-in_err-extensions-cl
 returns-in_err-extensions-clause-at_most c = omega (arith, table_values server_object (view c.args.tree.now))
 
 pub returns-clause-ok : goal.returns-clause-ok
-returns-clause-ok c = 
+returns-clause-ok c =
     let is : is_some (as_object (view c.args.tree.now)) ≡ true = sym c.is_object.ensures ∙ c.if-not-is_object.false in
     table_fits server_object _ _ _ is
     (fields-fit _ _ _ _ _ c.in_ok-url.ensures.ok
@@ -53,7 +53,7 @@ pub returns-clause-at_most : goal.returns-clause-at_most
 returns-clause-at_most c = omega (arith, table_values server_object (view c.args.tree.now))
 
 pub returns-clause-at_least : goal.returns-clause-at_least
-returns-clause-at_least c = 
+returns-clause-at_least c =
     table_counted _ _ server_object _ _
     (read_more _ _ _ _ _ c.in_ok-url.ensures.grows c.in_ok-url.ensures.at_least
     (read_more _ _ _ _ _ c.in_ok-description.ensures.grows c.in_ok-description.ensures.at_least

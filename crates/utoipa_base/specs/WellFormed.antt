@@ -1,4 +1,4 @@
--- Which documents are plain, and which are tidy: those that read back from their own tree.
+-- Which documents are plain, and which are well-formed: those that read back from their own tree.
 use Rattle.std.specs.Prelude.{◌≡◌, ◌||◌, ◌&&◌, ℕ, List, [], ◌∷◌, Bool, true, false, not, Option, None, Some, option_and_then, is_none, codes}
 use Rattle.serde_json.specs.Data.{Data, Members, no_members, member}
 use Rattle.serde_json.specs.Find.{get, as_str}
@@ -48,7 +48,7 @@ unfoldable mutual
 abbrev pub IsPlain : Doc → Type 0
 IsPlain d = has_fraction d ≡ false
 
--- ---- tidy
+-- ---- well-formed
 
 -- each extension's name begins `x-`
 abbrev pub AllExtensions : Option Members → Type 0
@@ -69,40 +69,40 @@ abbrev pub IsNoReference : Data → Type 0
 IsNoReference t = option_and_then as_str (get (codes "$ref") t) ≡ None
 
 unfoldable mutual
-  pub IsTidyInside : Doc → Type 0
-  IsTidyInside (text_doc s) = Unit {0}
-  IsTidyInside (flag_doc b) = Unit {0}
-  IsTidyInside (whole_doc n) = Unit {0}
-  IsTidyInside (int_doc z) = Unit {0}
-  IsTidyInside (uint_doc n) = Unit {0}
-  IsTidyInside (tree_doc d) = Unit {0}
-  IsTidyInside (word_doc s) = Unit {0}
-  IsTidyInside (custom_doc s) = Unit {0}
-  IsTidyInside (types_doc d) = IsTidyInside d
-  IsTidyInside any_value_doc = Unit {0}
-  IsTidyInside none_doc = Unit {0}
-  IsTidyInside (some_doc d) = IsTidyInside d
-  IsTidyInside (ref_doc k d) = IsTidyInside d
-  IsTidyInside (own_doc d) = IsTidyInside d × IsNoReference (write d)
-  IsTidyInside (schema_doc d) = IsTidyInside d
-  IsTidyInside (tagged_doc name word d) = IsTidyInside d
-  IsTidyInside (flow_doc d) = IsTidyInside d
-  IsTidyInside (list_doc ds) = AreTidyInside ds
-  IsTidyInside (map_doc es) = AreTidyEntries es
-  IsTidyInside (entries_doc es e) = AreTidyEntries es × (no_extension es ≡ true) × AllExtensions e
-  IsTidyInside (table_doc n ds e) = AreTidyInside ds × AllExtensions e
+  pub IsWellNamed : Doc → Type 0
+  IsWellNamed (text_doc s) = Unit {0}
+  IsWellNamed (flag_doc b) = Unit {0}
+  IsWellNamed (whole_doc n) = Unit {0}
+  IsWellNamed (int_doc z) = Unit {0}
+  IsWellNamed (uint_doc n) = Unit {0}
+  IsWellNamed (tree_doc d) = Unit {0}
+  IsWellNamed (word_doc s) = Unit {0}
+  IsWellNamed (custom_doc s) = Unit {0}
+  IsWellNamed (types_doc d) = IsWellNamed d
+  IsWellNamed any_value_doc = Unit {0}
+  IsWellNamed none_doc = Unit {0}
+  IsWellNamed (some_doc d) = IsWellNamed d
+  IsWellNamed (ref_doc k d) = IsWellNamed d
+  IsWellNamed (own_doc d) = IsWellNamed d × IsNoReference (write d)
+  IsWellNamed (schema_doc d) = IsWellNamed d
+  IsWellNamed (tagged_doc name word d) = IsWellNamed d
+  IsWellNamed (flow_doc d) = IsWellNamed d
+  IsWellNamed (list_doc ds) = AreWellNamed ds
+  IsWellNamed (map_doc es) = AreWellNamedEntries es
+  IsWellNamed (entries_doc es e) = AreWellNamedEntries es × (no_extension es ≡ true) × AllExtensions e
+  IsWellNamed (table_doc n ds e) = AreWellNamed ds × AllExtensions e
 
-  pub AreTidyInside : Docs → Type 0
-  AreTidyInside no_docs = Unit {0}
-  AreTidyInside (doc d ds) = IsTidyInside d × AreTidyInside ds
+  pub AreWellNamed : Docs → Type 0
+  AreWellNamed no_docs = Unit {0}
+  AreWellNamed (doc d ds) = IsWellNamed d × AreWellNamed ds
 
-  pub AreTidyEntries : Entries → Type 0
-  AreTidyEntries no_entries = Unit {0}
-  AreTidyEntries (entry key d es) = IsTidyInside d × KeyOf key d × AreTidyEntries es
+  pub AreWellNamedEntries : Entries → Type 0
+  AreWellNamedEntries no_entries = Unit {0}
+  AreWellNamedEntries (entry key d es) = IsWellNamed d × KeyOf key d × AreWellNamedEntries es
 
--- plain, and tidy at every place
-abbrev pub IsTidy : Doc → Type 0
-IsTidy d = IsPlain d × IsTidyInside d
+-- plain, and well-formed at every place
+abbrev pub IsWellFormed : Doc → Type 0
+IsWellFormed d = IsPlain d × IsWellNamed d
 
 -- what a plain tree reads as
 abbrev pub Reads : Kind → Data → Doc → Type 0

@@ -1,18 +1,41 @@
 -- The documents of servers and their variables.
-use Rattle.std.specs.Prelude.{◌≡◌, option_map, refl}
+use Rattle.std.specs.Prelude.{◌≡◌, None, option_map, refl, String, Vec}
+use Rattle.std.specs.BTreeMap.{BTreeMap}
+use Rattle.std.specs.declared.alloc.Global.{Global}
 use Rattle.utoipa_base.specs.Kinds.{named, server_object, server_variable_object, text, list_of, map_of}
 use Rattle.utoipa_base.specs.Docs.{Doc, table_doc, no_entries, no_docs, doc}
 use Rattle.utoipa_base.specs.Extensions.{extensions_view}
 use Rattle.utoipa_base.specs.Views.{text_of, option_of, list_of_docs, map_of_docs}
-use Rattle.utoipa_leaf.specs.declared.server.Server.{Server}
-use Rattle.utoipa_leaf.specs.declared.server.ServerBuilder.{ServerBuilder}
-use Rattle.utoipa_leaf.specs.declared.server.ServerVariable.{ServerVariable}
+use Rattle.utoipa_leaf_server.specs.declared.server.Server.{Server}
+use Rattle.utoipa_leaf_server.specs.declared.server.ServerBuilder.{ServerBuilder}
+use Rattle.utoipa_leaf_server.specs.declared.server.ServerVariable.{ServerVariable}
+use Rattle.utoipa_leaf_server.specs.declared.server.ServerVariableBuilder.{ServerVariableBuilder}
 use Rattle.utoipa_base.specs.Shape.{IsOf, RowsOf, value_of}
 use Rattle.utoipa_base.specs.OfKind.{text_of_kind, option_of_kind, list_of_kind, map_of_kind, extends_of_kind}
+
+-- a server at a URL, with nothing else
+abbrev pub empty_server : String Global → Server
+empty_server url = record { url = url; description = None; name = None; variables = None; extensions = None }
+
+-- a server variable with its value, and nothing else
+abbrev pub empty_server_variable : String Global → ServerVariable
+empty_server_variable value = record { default_value = value; description = None; enum_values = None; extensions = None }
+
+-- the values that a variable may have
+abbrev pub Values : Type 0
+Values = Vec (String Global) Global
+
+-- the variables of a server, by their names
+abbrev pub Variables : Type 0
+Variables = BTreeMap (String Global) ServerVariable
 
 -- the server of a builder so far
 abbrev pub built_server : ServerBuilder → Server
 built_server b = b.server
+
+-- the server variable of a builder so far
+abbrev pub built_server_variable : ServerVariableBuilder → ServerVariable
+built_server_variable b = b.variable
 
 abbrev pub server_variable_doc : ServerVariable → Doc
 server_variable_doc v =

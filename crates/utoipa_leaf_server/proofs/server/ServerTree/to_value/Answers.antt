@@ -1,7 +1,7 @@
--- Written by tools/answers.py utoipa_leaf server Server
+-- Written by tools/answers.py utoipa_leaf_server server Server
 use Rattle.utoipa_base.specs.Kinds.{server_object}
 use Rattle.utoipa_base.proofs.ByRows.{table_written, rows-cons, rows-nil}
-use Rattle.utoipa_leaf.proofs.server.ServerTree.to_value.Goals as goal
+use Rattle.utoipa_leaf_server.proofs.server.ServerTree.to_value.Goals as goal
 
 pub returns : goal.returns
 returns c =

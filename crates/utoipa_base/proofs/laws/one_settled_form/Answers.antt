@@ -1,7 +1,0 @@
-use Rattle.utoipa_base.proofs.ReadsBack.{one_settled_form}
-use Rattle.utoipa_base.proofs.laws.one_settled_form.Goals as goal
-
-pub returns : goal.returns
-returns g c =
-    λ left right. one_settled_form (g.T.Tree.doc c.args.left.now) (g.T.Tree.doc c.args.right.now) g.T.Tree.kind
-    (g.met.T.Tree.is_of_kind c.args.left.now) left (g.met.T.Tree.is_of_kind c.args.right.now) right

@@ -1,0 +1,379 @@
+ghost use Rattle.std.specs.Prelude.{◌≡◌, [], refl, false, None, Some, Option, IfOk, string_bytes, string_cmp};
+ghost use Rattle.std.specs.Option.{ForSome};
+ghost use Rattle.utoipa_base.specs.Kinds.{named, server_object, server_variable_object};
+
+use serde_json::Value;
+use std::alloc::{AllocError, Global};
+use std::collections::BTreeMap;
+use utoipa_base::{
+    Extensions, ReadFault, Readings, Tree, clone_extensions, clone_option, list_if_any,
+    read_extensions, row_option, row_required, write_option, write_required, written_extensions,
+};
+
+/// A Server Object (OpenAPI 3.1, section 4.8.5): a connectivity target.
+#[derive(Debug, Drop)]
+pub struct Server {
+    /// The URL of the target host. It may hold variables, named in braces, and may be relative.
+    pub url: String,
+    /// A description of the host.
+    pub description: Option<String>,
+    /// A unique name of the host, from OpenAPI 3.2 on.
+    pub name: Option<String>,
+    /// The variables of the URL, by their names.
+    pub variables: Option<BTreeMap<String, ServerVariable>>,
+    /// Specification extensions.
+    pub extensions: Option<Extensions>,
+}
+
+/// A Server Variable Object (OpenAPI 3.1, section 4.8.6): what is put in place of a variable of a server's URL.
+#[derive(Debug, Drop)]
+pub struct ServerVariable {
+    /// The value that is used where no other is supplied: the member `default`.
+    pub default_value: String,
+    /// A description of the variable.
+    pub description: Option<String>,
+    /// The values that the variable may have: the member `enum`.
+    pub enum_values: Option<Vec<String>>,
+    /// Specification extensions.
+    pub extensions: Option<Extensions>,
+}
+
+impl Server {
+    ghost use Rattle.utoipa_leaf_server.specs.Server.{empty_server, built_server};
+
+    /// A server at a URL, with nothing else.
+    pub fn new(url: String) -> Server
+        ensures { result ≡ empty_server url }
+    {
+        Server {
+            url,
+            description: None,
+            name: None,
+            variables: None,
+            extensions: None,
+        }
+    }
+
+    /// A builder that begins with a server at the empty URL. Takes no memory.
+    pub fn builder(alloc: Global) -> ServerBuilder
+        ensures { (url : _) × (string_bytes url ≡ []) × (built_server result ≡ empty_server url) }
+    {
+        ServerBuilder::new(alloc)
+    }
+}
+
+impl ServerVariable {
+    ghost use Rattle.utoipa_leaf_server.specs.Server.{empty_server_variable, built_server_variable};
+
+    /// A builder that begins with a variable whose value is the empty text. Takes no memory.
+    pub fn builder(alloc: Global) -> ServerVariableBuilder
+        ensures { (value : _) × (string_bytes value ≡ []) × (built_server_variable result ≡ empty_server_variable value) }
+    {
+        ServerVariableBuilder::new(alloc)
+    }
+}
+
+#[tactic(auto, using(utoipa_base::proofs::ByRows::by_table))]
+impl Tree for ServerVariable {
+    ghost use Rattle.utoipa_leaf_server.specs.Server.{server_variable_doc, server_variable_of_kind};
+
+    ghost kind = { named server_variable_object };
+
+    ghost doc = { server_variable_doc };
+
+    const IS_SCHEMA: bool = false;
+
+    ghost IS_SCHEMA = { false };
+
+    ghost is_of_kind = { server_variable_of_kind };
+
+    ghost counts_as_schema = { refl };
+
+    fn read_plain(
+        alloc: Global,
+        tree: &Value,
+        readings: &mut Readings,
+    ) -> Result<ServerVariable, ReadFault> {
+        if !tree.is_object() {
+            return Err(ReadFault::Kind("ServerVariable"));
+        }
+        let default_value = row_required(alloc, tree, "default", readings)?;
+        let description = row_option(alloc, tree, "description", readings)?;
+        let enum_values = row_option(alloc, tree, "enum", readings)?;
+        let extensions = read_extensions(alloc, tree)?;
+        Ok(ServerVariable {
+            default_value,
+            description,
+            enum_values,
+            extensions,
+        })
+    }
+
+    fn to_value(&self, alloc: Global) -> Result<Value, AllocError> {
+        let mut members = written_extensions(alloc, &self.extensions)?;
+        write_required(&mut members, alloc, "default", &self.default_value)?;
+        write_option(&mut members, alloc, "description", &self.description)?;
+        write_option(&mut members, alloc, "enum", &self.enum_values)?;
+        Ok(Value::Object(members))
+    }
+
+    fn try_clone(&self, alloc: Global) -> Result<ServerVariable, AllocError> {
+        Ok(ServerVariable {
+            default_value: self.default_value.try_clone(alloc)?,
+            description: clone_option(alloc, &self.description)?,
+            enum_values: clone_option(alloc, &self.enum_values)?,
+            extensions: clone_extensions(alloc, &self.extensions)?,
+        })
+    }
+}
+
+#[tactic(auto, using(utoipa_base::proofs::ByRows::by_table))]
+impl Tree for Server {
+    ghost use Rattle.utoipa_leaf_server.specs.Server.{server_doc, server_of_kind};
+
+    ghost kind = { named server_object };
+
+    ghost doc = { server_doc };
+
+    const IS_SCHEMA: bool = false;
+
+    ghost IS_SCHEMA = { false };
+
+    ghost is_of_kind = { server_of_kind };
+
+    ghost counts_as_schema = { refl };
+
+    fn read_plain(
+        alloc: Global,
+        tree: &Value,
+        readings: &mut Readings,
+    ) -> Result<Server, ReadFault> {
+        if !tree.is_object() {
+            return Err(ReadFault::Kind("Server"));
+        }
+        let url = row_required(alloc, tree, "url", readings)?;
+        let description = row_option(alloc, tree, "description", readings)?;
+        let name = row_option(alloc, tree, "name", readings)?;
+        let variables = row_option(alloc, tree, "variables", readings)?;
+        let extensions = read_extensions(alloc, tree)?;
+        Ok(Server {
+            url,
+            description,
+            name,
+            variables,
+            extensions,
+        })
+    }
+
+    fn to_value(&self, alloc: Global) -> Result<Value, AllocError> {
+        let mut members = written_extensions(alloc, &self.extensions)?;
+        write_required(&mut members, alloc, "url", &self.url)?;
+        write_option(&mut members, alloc, "description", &self.description)?;
+        write_option(&mut members, alloc, "name", &self.name)?;
+        write_option(&mut members, alloc, "variables", &self.variables)?;
+        Ok(Value::Object(members))
+    }
+
+    fn try_clone(&self, alloc: Global) -> Result<Server, AllocError> {
+        Ok(Server {
+            url: self.url.try_clone(alloc)?,
+            description: clone_option(alloc, &self.description)?,
+            name: clone_option(alloc, &self.name)?,
+            variables: clone_option(alloc, &self.variables)?,
+            extensions: clone_extensions(alloc, &self.extensions)?,
+        })
+    }
+}
+
+/// Builds a [`Server`].
+#[derive(Debug, Drop)]
+pub struct ServerBuilder {
+    server: Server,
+}
+
+impl ServerBuilder {
+    ghost use Rattle.std.specs.BTreeMap.{insert_entry};
+    ghost use Rattle.utoipa_base.specs.Views.{entries_or_none};
+    ghost use Rattle.utoipa_leaf_server.specs.Server.{empty_server, built_server, Variables};
+
+    /// Begins with a server at the empty URL, with nothing else. Takes no memory.
+    pub fn new(alloc: Global) -> ServerBuilder
+        ensures { (url : _) × (string_bytes url ≡ []) × (built_server result ≡ empty_server url) }
+    {
+        ServerBuilder {
+            server: Server::new(String::new(alloc)),
+        }
+    }
+
+    /// Sets the URL.
+    pub fn url(mut self, url: String) -> ServerBuilder
+        ensures { built_server result ≡ record (built_server self) { url = url } }
+    {
+        self.server.url = url;
+        self
+    }
+
+    /// Sets the description.
+    pub fn description(mut self, description: Option<String>) -> ServerBuilder
+        ensures { built_server result ≡ record (built_server self) { description = description } }
+    {
+        self.server.description = description;
+        self
+    }
+
+    /// Sets the name.
+    pub fn name(mut self, name: Option<String>) -> ServerBuilder
+        ensures { built_server result ≡ record (built_server self) { name = name } }
+    {
+        self.server.name = name;
+        self
+    }
+
+    /// Puts a variable under its name, in place of an earlier one of that name.
+    ///
+    /// Fails where memory runs out, and then gives up what was built.
+    pub fn parameter(
+        mut self,
+        alloc: Global,
+        name: String,
+        variable: ServerVariable,
+    ) -> Result<ServerBuilder, AllocError>
+        ensures { IfOk result (λ b. (variables : Variables)
+            × (variables.entries ≡ insert_entry string_cmp (entries_or_none (built_server self).variables) name variable)
+            × (built_server b ≡ record (built_server self) { variables = Some variables })) }
+    {
+        let mut variables = self.server.variables.take().unwrap_or(BTreeMap::new(alloc));
+        drop(variables.insert(name, variable)?);
+        self.server.variables = Some(variables);
+        Ok(self)
+    }
+
+    /// Sets the specification extensions.
+    pub fn extensions(mut self, extensions: Option<Extensions>) -> ServerBuilder
+        ensures { built_server result ≡ record (built_server self) { extensions = extensions } }
+    {
+        self.server.extensions = extensions;
+        self
+    }
+
+    /// The server that was built.
+    pub fn build(self) -> Server
+        ensures { result ≡ built_server self }
+    {
+        self.server
+    }
+}
+
+impl From<Server> for ServerBuilder {
+    ghost use Rattle.utoipa_leaf_server.specs.Server.{built_server};
+
+    ghost from_gives = { λ server builder. built_server builder ≡ server };
+
+    fn from(server: Server) -> ServerBuilder {
+        ServerBuilder { server }
+    }
+}
+
+impl From<ServerBuilder> for Server {
+    ghost use Rattle.utoipa_leaf_server.specs.Server.{built_server};
+
+    ghost from_gives = { λ builder server. server ≡ built_server builder };
+
+    fn from(builder: ServerBuilder) -> Server {
+        builder.build()
+    }
+}
+
+/// Builds a [`ServerVariable`].
+#[derive(Debug, Drop)]
+pub struct ServerVariableBuilder {
+    variable: ServerVariable,
+}
+
+impl ServerVariableBuilder {
+    ghost use Rattle.std.specs.Iterator.{IsFinite};
+    ghost use Rattle.utoipa_base.specs.Lists.{IsFilledIfAny};
+    ghost use Rattle.utoipa_leaf_server.specs.Server.{empty_server_variable, built_server_variable, Values};
+
+    /// Begins with a variable whose value is the empty text, with nothing else. Takes no memory.
+    pub fn new(alloc: Global) -> ServerVariableBuilder
+        ensures { (value : _) × (string_bytes value ≡ []) × (built_server_variable result ≡ empty_server_variable value) }
+    {
+        ServerVariableBuilder {
+            variable: ServerVariable {
+                default_value: String::new(alloc),
+                description: None,
+                enum_values: None,
+                extensions: None,
+            },
+        }
+    }
+
+    /// Sets the value that is used where no other is supplied.
+    pub fn default_value(mut self, default_value: String) -> ServerVariableBuilder
+        ensures { built_server_variable result ≡ record (built_server_variable self) { default_value = default_value } }
+    {
+        self.variable.default_value = default_value;
+        self
+    }
+
+    /// Sets the description.
+    pub fn description(mut self, description: Option<String>) -> ServerVariableBuilder
+        ensures { built_server_variable result ≡ record (built_server_variable self) { description = description } }
+    {
+        self.variable.description = description;
+        self
+    }
+
+    /// Sets the values that the variable may have. The iterator has to end.
+    ///
+    /// Fails where memory runs out, and then gives up what was built.
+    pub fn enum_values<I: Iterator<Item = String> + Drop>(
+        mut self,
+        alloc: Global,
+        enum_values: Option<I>,
+    ) -> Result<ServerVariableBuilder, AllocError>
+        requires can { ForSome enum_values (λ values. I.can_next values) }
+        requires ends { ForSome enum_values (λ values. IsFinite (I.remaining values)) }
+        ensures { IfOk result (λ b. (listed : Option Values) × IsFilledIfAny I.next_gives enum_values listed
+            × (built_server_variable b ≡ record (built_server_variable self) { enum_values = listed })) }
+    {
+        self.variable.enum_values = list_if_any(alloc, enum_values)?;
+        Ok(self)
+    }
+
+    /// Sets the specification extensions.
+    pub fn extensions(mut self, extensions: Option<Extensions>) -> ServerVariableBuilder
+        ensures { built_server_variable result ≡ record (built_server_variable self) { extensions = extensions } }
+    {
+        self.variable.extensions = extensions;
+        self
+    }
+
+    /// The variable that was built.
+    pub fn build(self) -> ServerVariable
+        ensures { result ≡ built_server_variable self }
+    {
+        self.variable
+    }
+}
+
+impl From<ServerVariable> for ServerVariableBuilder {
+    ghost use Rattle.utoipa_leaf_server.specs.Server.{built_server_variable};
+
+    ghost from_gives = { λ variable builder. built_server_variable builder ≡ variable };
+
+    fn from(variable: ServerVariable) -> ServerVariableBuilder {
+        ServerVariableBuilder { variable }
+    }
+}
+
+impl From<ServerVariableBuilder> for ServerVariable {
+    ghost use Rattle.utoipa_leaf_server.specs.Server.{built_server_variable};
+
+    ghost from_gives = { λ builder variable. variable ≡ built_server_variable builder };
+
+    fn from(builder: ServerVariableBuilder) -> ServerVariable {
+        builder.build()
+    }
+}
