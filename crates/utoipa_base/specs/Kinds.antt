@@ -100,7 +100,7 @@ pub data Mark : Type 0 where
   optional : Mark
   -- absent or null is none; none is written as null
   nullable : Mark
-  -- absent is empty, and null is refused; empty is left out
+  -- absent is empty, and null is read as the kind says, which of these kinds only `schema_type` does; empty is left out
   defaulted : Mark
 
 -- a row of a member table

@@ -168,7 +168,7 @@ read_boolean false array_items = Some (flag_doc false)
 read_boolean b (ref_or k) = option_map own_doc (read_boolean b k)
 read_boolean b k = None
 
--- a whole number: an Int below 2^63, a UInt from there on
+-- a whole number: an Int where it is an i64, else a UInt. No tree of the program holds a number below -2^63.
 abbrev pub numeral_doc : ℤ → Doc
 numeral_doc (pos n) = if nat_lt n (2 ^ 63) then int_doc (pos n) else uint_doc n
 numeral_doc (negsuc n) = int_doc (negsuc n)

@@ -1,4 +1,4 @@
--- The member tables: a line for each member of each object type, by OpenAPI 3.1 with the members that 3.2 adds.
+-- The member tables of the model: a line for each member that the model keeps, by OpenAPI 3.1 with members that 3.2 adds.
 use Rattle.std.specs.Prelude.{ℕ, List, [], ◌∷◌, Bool, true, false, codes}
 use Rattle.utoipa_base.specs.Kinds.{ObjectType, open_api_object, info_object, contact_object, license_object, server_object, server_variable_object, components_object, path_item_object, operation_object, external_docs_object, parameter_object, request_body_object, media_type_object, encoding_object, response_object, example_object, link_object, header_object, tag_object, reference_object, discriminator_object, xml_object, one_of_schema, all_of_schema, any_of_schema, array_schema, object_schema, api_key_scheme, http_scheme, open_id_connect_scheme, mutual_tls_scheme, oauth2_scheme, implicit_flow, password_flow, client_credentials_flow, authorization_code_flow, device_authorization_flow, scopes_object, Kind, text, flag, whole, numeral, any, word_of, parameter_in, parameter_style, http_auth_scheme, version, list_of, map_of, entries_of, ref_or, named, schema, schema_type, schema_format, array_items, additional_properties, security_scheme, flows, Mark, required, optional, nullable, defaulted, Row}
 
@@ -26,7 +26,7 @@ security_requirement = map_of (list_of text)
 -- ---- objects whose members have fixed names
 
 abbrev pub table : ObjectType → List Row
--- OpenAPI Object: OpenAPI 3.1, section 4.8.1; `$self` from 3.2
+-- OpenAPI Object: OpenAPI 3.1, section 4.8.1; `$self` from 3.2; `$schema` is this model's own
 table open_api_object =
     row (codes "openapi") required version
     ∷ row (codes "info") required (named info_object)
@@ -155,7 +155,7 @@ table encoding_object =
     ∷ row (codes "encoding") defaulted (map_of (named encoding_object))
     ∷ row (codes "prefixEncoding") defaulted (list_of (named encoding_object))
     ∷ row (codes "itemEncoding") optional (named encoding_object) ∷ []
--- Response Object: section 4.8.17; `summary` from 3.2
+-- Response Object: section 4.8.17; `summary` from 3.2, where `description` need not be there
 table response_object =
     row (codes "summary") optional text
     ∷ row (codes "description") defaulted text
@@ -246,7 +246,7 @@ table any_of_schema =
     ∷ row (codes "example") optional any
     ∷ row (codes "examples") defaulted (list_of any)
     ∷ row (codes "discriminator") optional (named discriminator_object) ∷ []
--- Schema Object of an array (JSON Schema 2020-12, Core, section 10.3.1, and Validation, section 6.4)
+-- Schema Object of an array (JSON Schema 2020-12, Core, section 10.3.1, and Validation, sections 6.4, 8 and 9)
 table array_schema =
     row (codes "type") required schema_type
     ∷ row (codes "title") optional text
@@ -295,27 +295,27 @@ table object_schema =
     ∷ row (codes "contentEncoding") defaulted text
     ∷ row (codes "contentMediaType") defaulted text
     ∷ row (codes "contentSchema") optional (ref_or schema) ∷ []
--- Security Scheme Object, `apiKey`: section 4.8.27; its member `in` is the choice of an API key
+-- Security Scheme Object, `apiKey`: section 4.8.27; `deprecated` from 3.2; its member `in` is the choice of an API key
 table api_key_scheme =
     row (codes "name") required text
     ∷ row (codes "description") optional text
     ∷ row (codes "deprecated") optional flag ∷ []
--- Security Scheme Object, `http`
+-- Security Scheme Object, `http`; `deprecated` from 3.2
 table http_scheme =
     row (codes "scheme") required (word_of http_auth_scheme)
     ∷ row (codes "bearerFormat") optional text
     ∷ row (codes "description") optional text
     ∷ row (codes "deprecated") optional flag ∷ []
--- Security Scheme Object, `openIdConnect`
+-- Security Scheme Object, `openIdConnect`; `deprecated` from 3.2
 table open_id_connect_scheme =
     row (codes "openIdConnectUrl") required text
     ∷ row (codes "description") optional text
     ∷ row (codes "deprecated") optional flag ∷ []
--- Security Scheme Object, `mutualTLS`
+-- Security Scheme Object, `mutualTLS`; `deprecated` from 3.2
 table mutual_tls_scheme =
     row (codes "description") optional text
     ∷ row (codes "deprecated") optional flag ∷ []
--- Security Scheme Object, `oauth2`; `oauth2MetadataUrl` from 3.2
+-- Security Scheme Object, `oauth2`; `oauth2MetadataUrl` and `deprecated` from 3.2
 table oauth2_scheme =
     row (codes "flows") required flows
     ∷ row (codes "oauth2MetadataUrl") optional text

@@ -1,4 +1,4 @@
--- Which documents are plain, and which are well-formed: those that read back from their own tree.
+-- Which documents are plain, and which are well-formed. A well-formed document reads back from its own tree.
 use Rattle.std.specs.Prelude.{◌≡◌, ◌||◌, ◌&&◌, ℕ, List, [], ◌∷◌, Bool, true, false, not, Option, None, Some, option_and_then, is_none, codes}
 use Rattle.serde_json.specs.Data.{Data, Members, no_members, member}
 use Rattle.serde_json.specs.Find.{get, as_str}

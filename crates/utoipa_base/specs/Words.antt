@@ -7,7 +7,7 @@ use Rattle.utoipa_base.specs.Kinds.{Vocabulary, type_word, known_format, http_me
 abbrev pub words : Vocabulary → List (List ℕ)
 -- JSON Schema 2020-12, Validation, section 6.1.1
 words type_word = codes "object" ∷ codes "string" ∷ codes "integer" ∷ codes "number" ∷ codes "boolean" ∷ codes "array" ∷ codes "null" ∷ []
--- OpenAPI 3.1, section 4.4, and JSON Schema 2020-12, Validation, section 7.3
+-- OpenAPI 3.1, section 4.4, JSON Schema 2020-12, Validation, section 7.3, and `byte` and `binary` of OpenAPI 3.0
 words known_format =
     codes "int32"
     ∷ codes "int64"
