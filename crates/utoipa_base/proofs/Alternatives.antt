@@ -15,7 +15,7 @@ use Rattle.utoipa_base.specs.Writing.{write_rows, with_member}
 use Rattle.utoipa_base.specs.Fields.{field_of}
 use Rattle.utoipa_base.specs.Shape.{own_kind, choices_of, value_of}
 use Rattle.utoipa_base.specs.WellFormed.{AllExtensions, IsNoReference}
-use Rattle.utoipa_base.proofs.Tests.{and_first, and_second, or_first, or_second, not_true, apart}
+use Rattle.utoipa_base.proofs.BoolFacts.{and_first, and_second, or_first, or_second, not_true, apart}
 use Rattle.utoipa_base.proofs.TableNames.{is_row, is_wanted}
 use Rattle.utoipa_base.proofs.WrittenMembers.{fits-part, first_refused, rows_refused, unnamed, write_rows-other, put_extension}
 

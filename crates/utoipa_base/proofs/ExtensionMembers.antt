@@ -17,7 +17,8 @@ use Rattle.serde_json.specs.Find.{get_member}
 use Rattle.serde_json.specs.View.{view, members_view}
 use Rattle.serde_json.specs.declared.value.Value.{Value}
 use Rattle.serde_json.proofs.Views.{Entry, members_view-insert_entry, get_member-put, get_member-put_other}
-use Rattle.utoipa_base.specs.Extensions.{is_extension, extension_members, put_pairs, overlaid, restored, put_back, undone}
+use Rattle.utoipa_base.specs.Extensions.{is_extension, extension_members, put_pairs, overlaid}
+use Rattle.utoipa_base.specs.Merging.{restored, put_back, undone}
 use Rattle.utoipa_base.specs.declared.extensions.merging.Replaced.{Replaced}
 
 -- ---- the members whose names begin `x-`

@@ -1,4 +1,4 @@
-pub mod Tests
+pub mod BoolFacts
 pub mod TableNames
 pub mod Values
 pub mod ExtensionMembers

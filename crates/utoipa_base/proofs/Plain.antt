@@ -15,7 +15,7 @@ use Rattle.utoipa_base.specs.Extensions.{is_extension, extension_members, extens
 use Rattle.utoipa_base.specs.Reading.{both, both_entries, only_if, Parts, part, entry_parts, empty_doc, fits, read_rows, read_table, read_items, read_entries, is_named, read_schema, read_ref_or, text_at, read_alternative, read_tagged, read_api_key, read_scheme, read_flow, read_flows, read_null, read_boolean, numeral_doc, read_number, read_word, read_format, read_string, read_array, read_object, reader, item_readers, parts, read}
 use Rattle.utoipa_base.specs.Writing.{write, write_items, write_entries, write_rows, left_out, put_unless, merge_member, merge_members, with_member}
 use Rattle.utoipa_base.specs.WellFormed.{has_fraction, docs_have_fraction, entries_have_fraction, IsPlain}
-use Rattle.utoipa_base.proofs.Tests.{or_first, or_second}
+use Rattle.utoipa_base.proofs.BoolFacts.{or_first, or_second}
 use Rattle.utoipa_base.proofs.Results.{if_is, if_map, if_made, if_then, if_else, if_only, by_order}
 
 -- ---- what is plain

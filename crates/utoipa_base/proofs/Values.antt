@@ -15,7 +15,7 @@ use Rattle.utoipa_base.specs.Kinds.{ObjectType, Row}
 use Rattle.utoipa_base.specs.Tables.{table}
 use Rattle.utoipa_base.specs.Docs.{Doc, docs_of, entries_of_list}
 use Rattle.utoipa_base.specs.Values.{values, items_values, members_values, values_of, names_values, is_one_of, are_distinct, schema_count, docs_schema_count, entries_schema_count}
-use Rattle.utoipa_base.proofs.Tests.{and_first, and_second, not_true, or_first, or_second, apart}
+use Rattle.utoipa_base.proofs.BoolFacts.{and_first, and_second, not_true, or_first, or_second, apart}
 use Rattle.utoipa_base.proofs.TableNames.{is_row, are_apart, table_apart, first_once as first_row_once, others_apart}
 
 -- ---- a member under another name, and under this one

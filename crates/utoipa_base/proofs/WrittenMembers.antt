@@ -17,7 +17,7 @@ use Rattle.utoipa_base.specs.Fields.{field_of}
 use Rattle.utoipa_base.specs.NormalForm.{normal_extensions}
 use Rattle.utoipa_base.specs.Shape.{Extends}
 use Rattle.utoipa_base.specs.WellFormed.{AllExtensions, no_extension}
-use Rattle.utoipa_base.proofs.Tests.{and_first, and_second, or_first, or_second, not_true, apart}
+use Rattle.utoipa_base.proofs.BoolFacts.{and_first, and_second, or_first, or_second, not_true, apart}
 use Rattle.utoipa_base.proofs.TableNames.{is_row, is_wanted, is_required, are_apart, first_plain, others_apart}
 
 -- ---- the parts of members

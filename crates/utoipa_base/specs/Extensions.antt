@@ -1,15 +1,12 @@
 -- Specification extensions: an object's members whose names begin `x-`.
-use Rattle.std.specs.Prelude.{ℕ, List, [], ◌∷◌, ◌++◌, Bool, true, ◌&&◌, if◌then◌else◌, nat_eq, Option, None, Some, codes, String, string_bytes, string_cmp}
+use Rattle.std.specs.Prelude.{ℕ, List, [], ◌∷◌, ◌++◌, Bool, true, ◌&&◌, if◌then◌else◌, nat_eq, Option, None, Some, codes, String, string_bytes}
 use Rattle.std.specs.List.{starts_with}
-use Rattle.std.specs.BTreeMap.{is_at}
-use Rattle.std.specs.Map.{remove_entry, set_value}
 use Rattle.std.specs.declared.alloc.Global.{Global}
 use Rattle.serde_json.specs.Data.{Data, null, boolean, number, string, array, object, Members, no_members, member, put}
 use Rattle.serde_json.specs.View.{view, members_view}
 use Rattle.serde_json.specs.declared.value.Value.{Value}
 use Rattle.utoipa_base.specs.declared.extensions.Extensions.{Extensions}
 use Rattle.utoipa_base.specs.declared.extensions.ExtensionsBuilder.{ExtensionsBuilder}
-use Rattle.utoipa_base.specs.declared.extensions.merging.Replaced.{Replaced}
 
 -- the members that extensions hold
 abbrev pub extensions_view : Extensions → Members
@@ -79,19 +76,3 @@ extensions_at has (object ms) = extensions_of has ms
 abbrev pub members_or_none : Option Members → Members
 members_or_none None = no_members
 members_or_none (Some ms) = ms
-
--- ---- for private clauses: what takes a merge back
-
--- the pairs, with the value that the name had before, if any
-abbrev pub restored : Option Value → String Global → Pairs → Pairs
-restored None name es = remove_entry (is_at (string_cmp name)) es
-restored (Some v) name es = set_value (is_at (string_cmp name)) es v
-
--- the pairs, with what was noted put back
-abbrev pub put_back : Replaced → Pairs → Pairs
-put_back r es = restored r.value r.name es
-
--- the pairs, with each note put back, the last first
-abbrev pub undone : List Replaced → Pairs → Pairs
-undone [] es = es
-undone (r ∷ rs) es = put_back r (undone rs es)

@@ -5,6 +5,7 @@ pub mod Choices
 pub mod Docs
 pub mod Tables
 pub mod Extensions
+pub mod Merging
 pub mod Reading
 pub mod Writing
 pub mod NormalForm

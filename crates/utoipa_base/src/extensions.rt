@@ -18,7 +18,9 @@ mod trees;
 
 pub use trees::{clone_extensions, is_extension_name, read_extensions, written_extensions};
 
-/// Specification extensions: members of an object whose names begin `x-`, in the order of their names.
+/// Specification extensions (OpenAPI 3.1, section 4.9): members of an object whose names begin `x-`, in the order of their
+/// names. Only the builder puts `x-` before a name; another name that is set here is written as
+/// it stands, and is no extension when the object is read again.
 #[derive(Debug, Drop)]
 pub struct Extensions {
     pub(crate) entries: BTreeMap<String, Value>,

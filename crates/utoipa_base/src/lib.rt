@@ -31,5 +31,5 @@ pub use rows::{
     clone_option, row_default, row_option, row_required, write_nullable, write_option,
     write_required,
 };
-pub use same::same_tree;
+pub use same::{same_members, same_tree};
 pub use tree::Tree;

@@ -1,1 +1,2 @@
 mod extensions;
+mod trees;

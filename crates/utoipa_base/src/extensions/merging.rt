@@ -3,7 +3,8 @@ ghost use Rattle.std.specs.Prelude.{◌≡◌, OnOk, OnErr, string_cmp};
 ghost use Rattle.std.specs.BTreeMap.{IsOrdered, insert_entry, is_at};
 ghost use Rattle.std.specs.Map.{set_value as value_set};
 ghost use Rattle.serde_json.specs.View.{members_view};
-ghost use Rattle.utoipa_base.specs.Extensions.{overlaid, put_back, undone};
+ghost use Rattle.utoipa_base.specs.Extensions.{overlaid};
+ghost use Rattle.utoipa_base.specs.Merging.{put_back, undone};
 
 use serde_json::Value;
 use std::alloc::{AllocError, Global};

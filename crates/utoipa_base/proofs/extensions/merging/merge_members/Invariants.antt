@@ -1,6 +1,7 @@
 use Rattle.std.proofs.Common.{◌≡◌}
 use Rattle.serde_json.specs.View.{members_view}
-use Rattle.utoipa_base.specs.Extensions.{put_pairs, undone}
+use Rattle.utoipa_base.specs.Extensions.{put_pairs}
+use Rattle.utoipa_base.specs.Merging.{undone}
 use Rattle.utoipa_base.proofs.extensions.merging.merge_members.Given as goal
 
 abbrev pub invariant-loop-name : goal.invariant-loop-name

@@ -1,5 +1,5 @@
 use Rattle.std.proofs.Common.{◌≡◌, ◌++◌, ◌∷◌, [], ap, ◌∙◌}
-use Rattle.utoipa_base.specs.Extensions.{put_back, undone}
+use Rattle.utoipa_base.specs.Merging.{put_back, undone}
 use Rattle.utoipa_base.specs.declared.extensions.merging.Replaced.{Replaced}
 use Rattle.utoipa_base.proofs.ExtensionMembers.{undone-last, put_back-insert_entry}
 use Rattle.utoipa_base.proofs.extensions.merging.put_noted.Goals as goal

@@ -1,5 +1,5 @@
 use Rattle.std.proofs.Common.{sym, ap, ◌∙◌}
-use Rattle.utoipa_base.specs.Extensions.{undone}
+use Rattle.utoipa_base.specs.Merging.{undone}
 use Rattle.utoipa_base.proofs.ExtensionMembers.{undone-last}
 use Rattle.utoipa_base.proofs.extensions.merging.take_back.Goals as goal
 

@@ -1,5 +1,5 @@
 use Rattle.std.proofs.Common.{◌≡◌}
-use Rattle.utoipa_base.specs.Extensions.{undone}
+use Rattle.utoipa_base.specs.Merging.{undone}
 use Rattle.utoipa_base.proofs.extensions.merging.take_back.Given as goal
 
 abbrev pub invariant-loop-last : goal.invariant-loop-last
