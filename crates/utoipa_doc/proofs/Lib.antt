@@ -1,0 +1,5 @@
+pub mod Trees
+pub mod Exact
+pub mod Told
+pub mod Served
+pub mod Callers

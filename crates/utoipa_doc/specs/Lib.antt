@@ -1,0 +1,5 @@
+pub mod Answers
+pub mod Bytes
+pub mod Commands
+pub mod Messages
+pub mod Runs

@@ -1,0 +1,68 @@
+//! The answer of a command to a text.
+ghost use Rattle.std.specs.Prelude.{◌≡◌, ◌≢◌, false, Some, IfOk, IfErr};
+ghost use Rattle.serde_json.specs.View.{view};
+ghost use Rattle.serde_json.specs.Written.{has_float};
+ghost use Rattle.utoipa_doc.specs.Answers.{tree_of, rewritten, answer_of, line_of, HasNoTree, IsAnswer, IsAnswerToTree, IsCause, IsCauseInTree};
+
+use crate::command::Command;
+use crate::refusal::Refusal;
+use serde_json::Value;
+use std::alloc::Global;
+use utoipa_base::Tree;
+use utoipa_base::laws::stays_plain;
+use utoipa_leaf::server::Server;
+
+/// The line with which the command answers a text.
+pub fn answer(alloc: Global, command: Command, text: &[u8]) -> Result<Vec<u8>, Refusal>
+    ensures ok { IfOk result (λ line. IsAnswer command text.now line.items) }
+    ensures err { IfErr result (IsCause command text.now) }
+{
+    match parsed(alloc, text) {
+        Ok(tree) => answer_to_tree(alloc, command, &tree),
+        Err(refusal) => Err(refusal),
+    }
+}
+
+// The tree of a text.
+fn parsed(alloc: Global, text: &[u8]) -> Result<Value, Refusal>
+    ensures ok { IfOk result (λ tree. tree_of text.now ≡ Some (view tree)) }
+    ensures err { IfErr result (λ w. w ≢ Refusal.Memory → w ≡ Refusal.Text) }
+    ensures text { IfErr result (λ w. w ≡ Refusal.Text → HasNoTree text.now) }
+{
+    match Value::from_slice(alloc, text) {
+        Ok(tree) => Ok(tree),
+        Err(e) if e.is_memory() => Err(Refusal::Memory),
+        Err(_) => Err(Refusal::Text),
+    }
+}
+
+fn answer_to_tree(alloc: Global, command: Command, tree: &Value) -> Result<Vec<u8>, Refusal>
+    ensures ok { IfOk result (λ line. IsAnswerToTree (view tree.now) (answer_of command (view tree.now)) line.items) }
+    ensures err { IfErr result (IsCauseInTree (view tree.now) (answer_of command (view tree.now))) }
+{
+    match command {
+        Command::Server => rewritten::<Server>(alloc, tree),
+    }
+}
+
+// Reads a document of the type and writes it.
+fn rewritten<T: Tree>(alloc: Global, tree: &Value) -> Result<Vec<u8>, Refusal>
+    ensures ok { IfOk result (λ line. IsAnswerToTree (view tree.now) (rewritten T.kind (view tree.now)) line.items) }
+    ensures err { IfErr result (IsCauseInTree (view tree.now) (rewritten T.kind (view tree.now))) }
+{
+    stays_plain::<T>(tree);
+    let document = T::from_value(alloc, tree)?;
+    let written = document.to_value(alloc)?;
+    line(alloc, &written)
+}
+
+// The line of a tree.
+fn line(alloc: Global, tree: &Value) -> Result<Vec<u8>, Refusal>
+    requires { has_float (view tree.now) ≡ false }
+    ensures ok { IfOk result (λ line. line.items ≡ line_of (view tree.now)) }
+    ensures err { IfErr result (λ w. w ≡ Refusal.Memory) }
+{
+    let mut line = tree.to_vec(alloc)?;
+    line.push(b'\n')?;
+    Ok(line)
+}

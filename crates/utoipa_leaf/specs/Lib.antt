@@ -1,0 +1,1 @@
+pub use Rattle.utoipa_leaf_server.specs.Server
