@@ -59,6 +59,11 @@ pub put_field-full : (name : List ℕ) (k : Kind) (d : Doc) (ms : Members) → i
 unfolding put_field
 put_field-full name k d ms e = ap (λ b. put_unless b name (write d) ms) e
 
+-- a nullable member is read as an optional one
+pub field-nullable : (name : List ℕ) (k : Kind) (d : Data) → field (row name nullable k) d ≡ field (row name optional k) d
+unfolding field
+field-nullable name k d = elim (get name d) as (λ o. field_of nullable k o ≡ field_of optional k o) [ None ↦ refl | Some e ↦ refl ]
+
 -- a member that may be absent, by what stands at its name
 abbrev pub present_at : Kind → Option Data → Option Doc
 present_at k None = Some none_doc

@@ -7,6 +7,9 @@ pub mod Maps
 pub mod ByRows
 pub mod Places
 pub mod Empties
+pub mod Numerals
+pub mod SameDocs
+pub mod ByWords
 pub mod Results
 pub mod WrittenMembers
 pub mod Alternatives

@@ -18,3 +18,7 @@ pub mod Views
 pub mod Refs
 pub mod OfKind
 pub mod Lists
+pub mod References
+pub mod Flags
+pub mod Numbers
+pub mod Vocabularies

@@ -1,16 +1,24 @@
 -- Why each value of the basic types is a document of its type's kind.
-use Rattle.std.specs.Prelude.{◌≡◌, ℕ, List, [], ◌∷◌, Bool, true, Option, None, Some, map, option_map, String, string_bytes, refl}
+use Rattle.std.specs.Prelude.{◌≡◌, ℕ, List, [], ◌∷◌, Bool, true, false, Option, None, Some, map, option_map, String, string_bytes, refl}
 use Rattle.std.specs.declared.alloc.Global.{Global}
 use Rattle.std.specs.BTreeMap.{BTreeMap}
 use Rattle.std.specs.Prelude.{Vec}
 use Rattle.serde_json.specs.Data.{Members}
 use Rattle.serde_json.specs.View.{view}
 use Rattle.serde_json.specs.declared.value.Value.{Value}
-use Rattle.utoipa_base.specs.Kinds.{Kind, text, flag, any, whole, list_of, map_of, ref_or, named, reference_object}
+use Rattle.utoipa_base.specs.Kinds.{Kind, text, flag, any, whole, numeral, list_of, map_of, ref_or, named, reference_object}
 use Rattle.utoipa_base.specs.Docs.{Doc, text_doc, flag_doc, whole_doc, tree_doc, docs_of, entries_of_list}
 use Rattle.utoipa_base.specs.Shape.{Place, value_of, option_of, IsOf, ItemsOf, EntriesOf, RowsOf, Extends}
 use Rattle.utoipa_base.specs.Views as views
 use Rattle.utoipa_base.specs.Refs.{reference_doc, ref_or_doc}
+use Rattle.utoipa_base.specs.Flags.{deprecated_doc, required_doc}
+use Rattle.utoipa_base.specs.Numbers.{number_doc}
+use Rattle.utoipa_base.specs.declared.deprecated.Deprecated.{Deprecated}
+use Rattle.utoipa_base.specs.declared.deprecated.Deprecated.TheVariants as deprecation
+use Rattle.utoipa_base.specs.declared.required.Required.{Required}
+use Rattle.utoipa_base.specs.declared.required.Required.TheVariants as requirement
+use Rattle.utoipa_base.specs.declared.number.Number.{Number}
+use Rattle.utoipa_base.specs.declared.number.Number.TheVariants.{Int, UInt}
 use Rattle.utoipa_base.specs.declared.refs.Ref.{Ref}
 use Rattle.utoipa_base.specs.declared.refs.RefOr.{RefOr}
 use Rattle.utoipa_base.specs.declared.refs.RefOr.TheVariants as made
@@ -26,6 +34,22 @@ flag_of_kind b = refl
 pub whole_of_kind : (n : ℕ) → IsOf (whole_doc n) (value_of whole)
 unfolding IsOf
 whole_of_kind n = refl
+
+-- whether something is deprecated is a flag
+pub deprecated_of_kind : (d : Deprecated) → IsOf (deprecated_doc d) (value_of flag)
+deprecated_of_kind deprecation.True = flag_of_kind true
+deprecated_of_kind deprecation.False = flag_of_kind false
+
+-- whether something is required is a flag
+pub required_of_kind : (r : Required) → IsOf (required_doc r) (value_of flag)
+required_of_kind requirement.True = flag_of_kind true
+required_of_kind requirement.False = flag_of_kind false
+
+-- a number of either sort is a numeral
+pub number_of_kind : (n : Number) → IsOf (number_doc n) (value_of numeral)
+unfolding IsOf
+number_of_kind (Int z) = refl
+number_of_kind (UInt n) = refl
 
 pub tree_of_kind : (v : Value) → IsOf (views.tree_of v) (value_of any)
 unfolding IsOf

@@ -2,21 +2,30 @@
 //! types that are read from a tree and written as one.
 #![tactic(auto)]
 
+pub mod compare;
+pub mod deprecated;
 pub mod empty;
 pub mod extensions;
 pub mod fault;
 pub mod fraction;
 pub mod laws;
 pub mod lists;
+pub mod number;
 pub mod readings;
 pub mod refs;
+pub mod required;
 pub mod rows;
 pub mod same;
 mod scalar;
 #[cfg(test)]
 mod tests;
 pub mod tree;
+pub mod words;
 
+pub use compare::{
+    Same, extensions_have_fraction, option_has_fraction, same_extensions, same_option,
+};
+pub use deprecated::Deprecated;
 pub use empty::{Empty, row_or_empty, write_unless_empty};
 pub use extensions::{
     Extensions, ExtensionsBuilder, clone_extensions, is_extension_name, read_extensions,
@@ -25,11 +34,14 @@ pub use extensions::{
 pub use fault::ReadFault;
 pub use fraction::{has_fraction, members_have_fraction};
 pub use lists::{list_from, list_if_any};
+pub use number::Number;
 pub use readings::{Counted, Readings};
-pub use refs::{Ref, RefOr};
+pub use refs::{Ref, RefBuilder, RefOr};
+pub use required::Required;
 pub use rows::{
-    clone_option, row_default, row_option, row_required, write_nullable, write_option,
-    write_required,
+    clone_option, row_default, row_nullable, row_option, row_required, write_nullable,
+    write_option, write_required,
 };
 pub use same::{same_members, same_tree};
 pub use tree::Tree;
+pub use words::{Word, read_word, write_word};

@@ -1,4 +1,4 @@
-ghost use Rattle.std.specs.Prelude.{◌≡◌, None, Some, IfOk, IfErr, option_map};
+ghost use Rattle.std.specs.Prelude.{◌≡◌, ◌++◌, [], None, Some, IfOk, IfErr, option_map, string_bytes};
 ghost use Rattle.serde_json.specs.View.{view};
 ghost use Rattle.utoipa_base.specs.Kinds.{text, flag, any, named, reference_object, required, optional, defaulted};
 ghost use Rattle.utoipa_base.specs.Docs.{text_doc, flag_doc};
@@ -12,10 +12,14 @@ ghost use Rattle.utoipa_base.specs.Views.{text_of, tree_of, option_of};
 use crate::fault::ReadFault;
 use crate::scalar::{read_flag, read_text};
 use serde_json::Value;
-use std::alloc::Global;
+use std::alloc::{AllocError, Global};
+
+mod builder;
+
+pub use builder::RefBuilder;
 
 /// A Reference Object (OpenAPI 3.1, section 4.8.23): where another component stands.
-#[derive(Drop)]
+#[derive(Debug, Drop)]
 pub struct Ref {
     /// The member `$ref`: a URI of the referenced component.
     pub ref_location: String,
@@ -33,13 +37,82 @@ pub struct Ref {
     pub title: Option<String>,
 }
 
+impl Ref {
+    ghost use Rattle.utoipa_base.specs.References.{schema_location, response_location, StandsAlone, built_reference};
+
+    /// A reference to a URI, with nothing beside it. Takes no memory.
+    pub fn new(alloc: Global, ref_location: String) -> Ref
+        ensures location { result.ref_location ≡ ref_location }
+        ensures alone { StandsAlone result }
+    {
+        Ref {
+            ref_location,
+            description: String::new(alloc),
+            summary: String::new(alloc),
+            read_only: None,
+            write_only: None,
+            default: None,
+            title: None,
+        }
+    }
+
+    /// A reference to a schema of the components, by its name, which is taken as it stands. Fails where memory runs
+    /// out.
+    pub fn from_schema_name(alloc: Global, schema_name: &str) -> Result<Ref, AllocError>
+        ensures { IfOk result (λ r. (string_bytes r.ref_location ≡ schema_location schema_name.now) × StandsAlone r) }
+    {
+        Ok(Ref::new(alloc, joined(alloc, SCHEMAS, schema_name)?))
+    }
+
+    /// A reference to a response of the components, by its name, which is taken as it stands. Fails where memory
+    /// runs out.
+    pub fn from_response_name(alloc: Global, response_name: &str) -> Result<Ref, AllocError>
+        ensures { IfOk result (λ r. (string_bytes r.ref_location ≡ response_location response_name.now) × StandsAlone r) }
+    {
+        Ok(Ref::new(alloc, joined(alloc, RESPONSES, response_name)?))
+    }
+
+    /// A builder that begins with a reference to the empty URI. Takes no memory.
+    pub fn builder(alloc: Global) -> RefBuilder
+        ensures location { string_bytes (built_reference result).ref_location ≡ [] }
+        ensures alone { StandsAlone (built_reference result) }
+    {
+        RefBuilder::new(alloc)
+    }
+}
+
+/// Where a schema of the components stands, whose name is put after this.
+pub(crate) const SCHEMAS: &str = "#/components/schemas/";
+
+/// Where a response of the components stands, whose name is put after this.
+pub(crate) const RESPONSES: &str = "#/components/responses/";
+
+/// The text of a place, with a name put after it.
+pub(crate) fn joined(alloc: Global, place: &str, name: &str) -> Result<String, AllocError>
+    ensures { IfOk result (λ s. string_bytes s ≡ place.now ++ name.now) }
+{
+    let mut location = String::from_str(alloc, place)?;
+    location.push_str(name)?;
+    Ok(location)
+}
+
 /// A reference, or a value in its place.
-#[derive(Drop)]
+#[derive(Debug, Drop)]
 pub enum RefOr<T> {
     /// A reference to a component.
     Ref(Ref),
     /// The value itself.
     T(T),
+}
+
+impl<T> From<Ref> for RefOr<T> {
+    ghost use Rattle.utoipa_base.specs.declared.refs.RefOr.TheVariants as made;
+
+    ghost from_gives = { λ reference place. place ≡ made.Ref reference };
+
+    fn from(reference: Ref) -> RefOr<T> {
+        RefOr::Ref(reference)
+    }
 }
 
 // A trait's method reads references, so the reader below goes through no implementation of that trait: the proof of

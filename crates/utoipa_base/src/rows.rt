@@ -63,6 +63,24 @@ pub fn row_option<T: Tree>(
     }
 }
 
+/// The value of a member that is written as null where there is none, or none where it is absent or null.
+#[tactic(auto, using(crate::proofs::ByRows::by_row, crate::proofs::Values::counts, crate::proofs::Places::places))]
+pub fn row_nullable<T: Tree>(
+    alloc: Global,
+    tree: &Value,
+    name: &'static str,
+    readings: &mut Readings,
+) -> Result<Option<T>, ReadFault>
+    ensures ok { IfOk result (λ o. field (row name.now nullable T.kind) (view tree.now) ≡ Some (option_of T.doc o)) }
+    ensures err { IfErr result (Refuses (field (row name.now nullable T.kind) (view tree.now))) }
+    ensures grows { readings.old ≤ readings.new }
+    ensures at_most { readings.new ≤ readings.old + values_of (get name.now (view tree.now)) }
+    ensures at_least { IfOk result (λ o. readings.new < u64.MAX
+        → readings.old + schema_count (option_of T.doc o) ≤ readings.new) }
+{
+    row_option(alloc, tree, name, readings)
+}
+
 /// The value of a defaulted member, or none where it is absent. Null is a value like any other.
 #[tactic(auto, using(crate::proofs::ByRows::by_row, crate::proofs::Values::counts, crate::proofs::Places::places))]
 pub fn row_default<T: Tree>(

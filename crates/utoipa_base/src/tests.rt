@@ -1,2 +1,5 @@
+mod compare;
 mod extensions;
+mod numbers;
+mod references;
 mod trees;

@@ -1,0 +1,8 @@
+use Rattle.std.proofs.Common.{◌≡◌}
+use Rattle.utoipa_base.specs.Docs.{entries_of_list}
+use Rattle.utoipa_base.specs.Views.{pairs_of}
+use Rattle.utoipa_base.specs.WellFormed.{entries_have_fraction}
+use Rattle.utoipa_base.proofs.compare.BTreeMapStringSame.has_fraction.Given as goal
+
+abbrev pub invariant-loop-member : goal.invariant-loop-member
+invariant-loop-member g l = entries_have_fraction (entries_of_list (pairs_of g.T.Tree.doc l.initial.member-iterator)) ≡ entries_have_fraction (entries_of_list (pairs_of g.T.Tree.doc l.member-iterator))

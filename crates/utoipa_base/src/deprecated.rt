@@ -1,0 +1,60 @@
+ghost use Rattle.std.specs.Prelude.{refl, false};
+ghost use Rattle.utoipa_base.specs.Kinds.{flag};
+ghost use Rattle.utoipa_base.specs.Flags.{deprecated_doc};
+ghost use Rattle.utoipa_base.specs.OfKind.{deprecated_of_kind};
+
+use crate::fault::ReadFault;
+use crate::readings::Readings;
+use crate::scalar::read_flag;
+use crate::tree::Tree;
+use serde_json::Value;
+use std::alloc::{AllocError, Global};
+
+/// Whether an operation, parameter, header or security scheme is deprecated: the member `deprecated`, a flag.
+#[derive(Clone, Copy, PartialEq, Eq, Debug, Default)]
+pub enum Deprecated {
+    /// It should no longer be used.
+    True,
+    /// It may be used.
+    #[default]
+    False,
+}
+
+/// True or false.
+#[tactic(auto, using(crate::proofs::ByKind::by_kind, crate::proofs::Places::places))]
+impl Tree for Deprecated {
+    ghost kind = { flag };
+
+    ghost doc = { deprecated_doc };
+
+    const IS_SCHEMA: bool = false;
+
+    ghost IS_SCHEMA = { false };
+
+    ghost is_of_kind = { deprecated_of_kind };
+
+    ghost counts_as_schema = { refl };
+
+    fn read_plain(
+        _alloc: Global,
+        tree: &Value,
+        _readings: &mut Readings,
+    ) -> Result<Deprecated, ReadFault> {
+        if read_flag(tree)? {
+            Ok(Deprecated::True)
+        } else {
+            Ok(Deprecated::False)
+        }
+    }
+
+    fn to_value(&self, _alloc: Global) -> Result<Value, AllocError> {
+        match self {
+            Deprecated::True => Ok(Value::Bool(true)),
+            Deprecated::False => Ok(Value::Bool(false)),
+        }
+    }
+
+    fn try_clone(&self, _alloc: Global) -> Result<Deprecated, AllocError> {
+        Ok(*self)
+    }
+}

@@ -1,0 +1,60 @@
+ghost use Rattle.std.specs.Prelude.{refl, false};
+ghost use Rattle.utoipa_base.specs.Kinds.{flag};
+ghost use Rattle.utoipa_base.specs.Flags.{required_doc};
+ghost use Rattle.utoipa_base.specs.OfKind.{required_of_kind};
+
+use crate::fault::ReadFault;
+use crate::readings::Readings;
+use crate::scalar::read_flag;
+use crate::tree::Tree;
+use serde_json::Value;
+use std::alloc::{AllocError, Global};
+
+/// Whether a parameter or a request body has to be sent: the member `required`, a flag.
+#[derive(Clone, Copy, PartialEq, Eq, Debug, Default)]
+pub enum Required {
+    /// It has to be sent.
+    True,
+    /// It may be left out.
+    #[default]
+    False,
+}
+
+/// True or false.
+#[tactic(auto, using(crate::proofs::ByKind::by_kind, crate::proofs::Places::places))]
+impl Tree for Required {
+    ghost kind = { flag };
+
+    ghost doc = { required_doc };
+
+    const IS_SCHEMA: bool = false;
+
+    ghost IS_SCHEMA = { false };
+
+    ghost is_of_kind = { required_of_kind };
+
+    ghost counts_as_schema = { refl };
+
+    fn read_plain(
+        _alloc: Global,
+        tree: &Value,
+        _readings: &mut Readings,
+    ) -> Result<Required, ReadFault> {
+        if read_flag(tree)? {
+            Ok(Required::True)
+        } else {
+            Ok(Required::False)
+        }
+    }
+
+    fn to_value(&self, _alloc: Global) -> Result<Value, AllocError> {
+        match self {
+            Required::True => Ok(Value::Bool(true)),
+            Required::False => Ok(Value::Bool(false)),
+        }
+    }
+
+    fn try_clone(&self, _alloc: Global) -> Result<Required, AllocError> {
+        Ok(*self)
+    }
+}
