@@ -2,3 +2,5 @@
 #![tactic(auto)]
 
 pub mod server;
+#[cfg(test)]
+mod tests;

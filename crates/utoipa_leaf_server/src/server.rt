@@ -1,13 +1,15 @@
-ghost use Rattle.std.specs.Prelude.{◌≡◌, [], refl, false, None, Some, Option, IfOk, string_bytes, string_cmp};
+ghost use Rattle.std.specs.Prelude.{◌≡◌, ◌↔◌, [], refl, false, None, Some, Option, IfOk, IsTrue, string_bytes, string_cmp};
 ghost use Rattle.std.specs.Option.{ForSome};
 ghost use Rattle.utoipa_base.specs.Kinds.{named, server_object, server_variable_object};
+ghost use Rattle.utoipa_base.specs.WellFormed.{has_fraction};
 
 use serde_json::Value;
 use std::alloc::{AllocError, Global};
 use std::collections::BTreeMap;
 use utoipa_base::{
-    Extensions, ReadFault, Readings, Tree, clone_extensions, clone_option, list_if_any,
-    read_extensions, row_option, row_required, write_option, write_required, written_extensions,
+    Extensions, ReadFault, Readings, Same, Tree, clone_extensions, clone_option,
+    extensions_have_fraction, list_if_any, option_has_fraction, read_extensions, row_option,
+    row_required, same_extensions, same_option, write_option, write_required, written_extensions,
 };
 
 /// A Server Object (OpenAPI 3.1, section 4.8.5): a connectivity target.
@@ -39,7 +41,7 @@ pub struct ServerVariable {
 }
 
 impl Server {
-    ghost use Rattle.utoipa_leaf_server.specs.Server.{empty_server, built_server};
+    ghost use Rattle.utoipa_leaf_server.specs.Server.{empty_server, built_server, server_doc};
 
     /// A server at a URL, with nothing else.
     pub fn new(url: String) -> Server
@@ -60,16 +62,66 @@ impl Server {
     {
         ServerBuilder::new(alloc)
     }
+
+    /// Whether the server holds a fraction, at any depth of its extensions.
+    #[tactic(auto, using(utoipa_base::proofs::SameDocs::by_docs))]
+    pub fn has_fraction(&self) -> bool
+        ensures { result ≡ has_fraction (server_doc self.now) }
+    {
+        self.url.has_fraction()
+            || option_has_fraction(&self.description)
+            || option_has_fraction(&self.name)
+            || option_has_fraction(&self.variables)
+            || extensions_have_fraction(&self.extensions)
+    }
+
+    /// Whether both are equal, extensions and all. Neither may hold a fraction.
+    #[tactic(auto, using(utoipa_base::proofs::SameDocs::by_docs))]
+    pub fn same(&self, other: &Server) -> bool
+        requires whole { has_fraction (server_doc self.now) ≡ false }
+        requires other_whole { has_fraction (server_doc other.now) ≡ false }
+        ensures { IsTrue result ↔ (server_doc self.now ≡ server_doc other.now) }
+    {
+        self.url.same(&other.url)
+            && same_option(&self.description, &other.description)
+            && same_option(&self.name, &other.name)
+            && same_option(&self.variables, &other.variables)
+            && same_extensions(&self.extensions, &other.extensions)
+    }
 }
 
 impl ServerVariable {
-    ghost use Rattle.utoipa_leaf_server.specs.Server.{empty_server_variable, built_server_variable};
+    ghost use Rattle.utoipa_leaf_server.specs.Server.{empty_server_variable, built_server_variable, server_variable_doc};
 
     /// A builder that begins with a variable whose value is the empty text. Takes no memory.
     pub fn builder(alloc: Global) -> ServerVariableBuilder
         ensures { (value : _) × (string_bytes value ≡ []) × (built_server_variable result ≡ empty_server_variable value) }
     {
         ServerVariableBuilder::new(alloc)
+    }
+
+    /// Whether the variable holds a fraction, at any depth of its extensions.
+    #[tactic(auto, using(utoipa_base::proofs::SameDocs::by_docs))]
+    pub fn has_fraction(&self) -> bool
+        ensures { result ≡ has_fraction (server_variable_doc self.now) }
+    {
+        self.default_value.has_fraction()
+            || option_has_fraction(&self.description)
+            || option_has_fraction(&self.enum_values)
+            || extensions_have_fraction(&self.extensions)
+    }
+
+    /// Whether both are equal, extensions and all. Neither may hold a fraction.
+    #[tactic(auto, using(utoipa_base::proofs::SameDocs::by_docs))]
+    pub fn same(&self, other: &ServerVariable) -> bool
+        requires whole { has_fraction (server_variable_doc self.now) ≡ false }
+        requires other_whole { has_fraction (server_variable_doc other.now) ≡ false }
+        ensures { IsTrue result ↔ (server_variable_doc self.now ≡ server_variable_doc other.now) }
+    {
+        self.default_value.same(&other.default_value)
+            && same_option(&self.description, &other.description)
+            && same_option(&self.enum_values, &other.enum_values)
+            && same_extensions(&self.extensions, &other.extensions)
     }
 }
 
@@ -182,6 +234,26 @@ impl Tree for Server {
             variables: clone_option(alloc, &self.variables)?,
             extensions: clone_extensions(alloc, &self.extensions)?,
         })
+    }
+}
+
+impl Same for ServerVariable {
+    fn has_fraction(&self) -> bool {
+        ServerVariable::has_fraction(self)
+    }
+
+    fn same(&self, other: &ServerVariable) -> bool {
+        ServerVariable::same(self, other)
+    }
+}
+
+impl Same for Server {
+    fn has_fraction(&self) -> bool {
+        Server::has_fraction(self)
+    }
+
+    fn same(&self, other: &Server) -> bool {
+        Server::same(self, other)
     }
 }
 
