@@ -56,7 +56,8 @@ def read_answers(crate, path, table, rows, extensions):
     ]
 
     def answer(name, term):
-        lines.append("\npub %s : goal.%s\n%s c = %s" % (name, name, name, term))
+        space = "" if term.startswith("\n") else " "
+        lines.append("\npub %s : goal.%s\n%s c =%s%s" % (name, name, name, space, term))
 
     most = "omega (arith, table_values %s (view c.args.tree.now))" % table
     answer(

@@ -1,12 +1,11 @@
 -- What a tree reads as where a number is asked for, and how a number is written.
-use Rattle.std.proofs.Common.{◌≡◌, w64, ℕ, ◌^◌, ◌<◌, arith, ℤ, pos, negsuc, nat_lt, Bool, true, false, cond, Option, Some, None, option_map, option_and_then, refl, ap, ◌∙◌}
+use Rattle.std.proofs.Common.{◌≡◌, w64, ℕ, ◌^◌, ◌<◌, arith, ℤ, pos, negsuc, nat_lt, Bool, true, false, cond, Some, None, option_map, option_and_then, refl, ap, ◌∙◌}
 use mir.Val.{SFits}
 use Rattle.std.proofs.lemmas.Bool.Decides.{nat_tests}
 use Rattle.serde_json.specs.Data.{Num, unsigned, negative, float, Data, null, boolean, number, string, array, object}
 use Rattle.serde_json.specs.Find.{as_number, as_u64, as_i64, as_integer, of_integer}
-use Rattle.serde_json.specs.View.{view}
 use Rattle.utoipa_base.specs.Kinds.{numeral}
-use Rattle.utoipa_base.specs.Docs.{Doc, int_doc, uint_doc}
+use Rattle.utoipa_base.specs.Docs.{int_doc, uint_doc}
 use Rattle.utoipa_base.specs.Reading.{reader, read, numeral_doc}
 use Rattle.utoipa_base.specs.Values.{schema_count}
 use Rattle.utoipa_base.specs.Writing.{write}

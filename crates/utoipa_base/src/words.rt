@@ -23,7 +23,7 @@ pub trait Word: Drop {
 
     ghost spelling: { Self → List ℕ };
 
-    /// The value that a match on its text gives. [`Word::from_text`] says when there is one.
+    /// The value whose word the text is, if there is one. A type supplies it; callers use [`Word::from_text`].
     fn lookup(text: &str) -> Option<Self>
         ensures { result ≡ with_text spelling every text.now };
 

@@ -1,9 +1,7 @@
-use Rattle.std.proofs.Common.{◌≡◌, ◌↔◌, ◌∷◌, ◌∙◌, ap, false, string_bytes, sym}
-use Rattle.utoipa_base.specs.Docs.{Entries, entry, entries_of_list}
+use Rattle.std.proofs.Common.{◌≡◌, ◌↔◌, ◌∙◌, ap, string_bytes, sym}
+use Rattle.utoipa_base.specs.Docs.{entry, entries_of_list}
 use Rattle.utoipa_base.specs.Views.{pairs_of}
-use Rattle.utoipa_base.specs.WellFormed.{entries_have_fraction}
-use Rattle.utoipa_base.proofs.SameDocs.{entries_have_fraction-cons, same_entries, if_true, one_text}
-use Rattle.utoipa_base.proofs.BoolFacts.{or_second}
+use Rattle.utoipa_base.proofs.SameDocs.{entries_whole, if_true, one_text, same_entries}
 use Rattle.utoipa_base.proofs.compare.BTreeMapStringSame.same.Goals as goal
 
 pub loop-name-preserved : goal.loop-name-preserved
@@ -19,11 +17,11 @@ loop-name-preserved g c =
     let here : entries_of_list (pairs_of f l.name-iterator) ≡ entry k (f x) left = ap (λ es. entries_of_list (pairs_of f es)) c.in-Some.ensures.steps in
     let there : entries_of_list (pairs_of f l.others) ≡ entry j (f y) right = ap (λ es. entries_of_list (pairs_of f es)) c.in-Some-next.ensures.steps in
     let equal : f x ≡ f y = if_true c.if-not-same.false c.same.ensures in
-    let named : k ≡ j = sym c.as_str.ensures.value ∙ one_text _ _ (sym c.if-ne.ensures) ∙ c.as_str-in-loop-name.ensures.value in
+    let named : k ≡ j = sym c.as_str.ensures.value ∙ one_text _ _ _ c.ne.ensures c.if-ne.false ∙ c.as_str-in-loop-name.ensures.value in
     let before : (entries_of_list (pairs_of f c.into_iter-name-iterator.result) ≡ entries_of_list (pairs_of f c.iter-others.result)) ↔ (entry k (f x) left ≡ entry j (f y) right) =
     rw (← here, ← there) l.invariant.same in
     record {
-      left_whole = or_second _ _ (sym (ap entries_have_fraction here ∙ entries_have_fraction-cons k (f x) left) ∙ l.invariant.left_whole);
-      right_whole = or_second _ _ (sym (ap entries_have_fraction there ∙ entries_have_fraction-cons j (f y) right) ∙ l.invariant.right_whole);
+      left_whole = entries_whole _ _ _ _ here l.invariant.left_whole;
+      right_whole = entries_whole _ _ _ _ there l.invariant.right_whole;
       same = same_entries _ _ _ _ _ _ _ _ before named equal;
     }

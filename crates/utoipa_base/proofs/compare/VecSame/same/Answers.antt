@@ -1,16 +1,15 @@
-use Rattle.std.proofs.Common.{◌≡◌, ◌↔◌, ◌<◌, ◌+◌, ◌∷◌, ◌∙◌, ap, arith, drop, false, length, map, refl, sym, subst}
+use Rattle.std.proofs.Common.{◌≡◌, ◌↔◌, ◌<◌, ◌+◌, ap, arith, drop, length, map}
 use Rattle.std.specs.Slice.Iter.{iter_rest}
-use Rattle.utoipa_base.specs.Docs.{Docs, doc, docs_of}
-use Rattle.utoipa_base.specs.WellFormed.{docs_have_fraction}
-use Rattle.utoipa_base.proofs.SameDocs.{docs_have_fraction-cons, docs_split, fraction_split, same_items, if_true}
-use Rattle.utoipa_base.proofs.BoolFacts.{or_first, or_second}
+use Rattle.utoipa_base.specs.Docs.{doc, docs_of}
+use Rattle.utoipa_base.proofs.SameDocs.{docs_split, if_true, item_whole, items_whole, same_items}
 use Rattle.utoipa_base.proofs.compare.VecSame.same.Goals as goal
 
 pub same-requires-clause-whole : goal.same-requires-clause-whole
 same-requires-clause-whole g c =
+    let l = c.loop-item in
     let xs = c.deref-item-items.result.now in
-    let within : c.loop-item.item-index < length xs = omega arith in
-    or_first _ _ (sym (fraction_split g.T.Tree.doc xs c.loop-item.item-index c.item-item.result within c.item-item.is) ∙ c.loop-item.invariant.left_whole)
+    let within : l.item-index < length xs = omega arith in
+    item_whole _ _ _ (docs_split g.T.Tree.doc xs l.item-index c.item-item.result within c.item-item.is) l.invariant.left_whole
 
 pub loop-item-preserved : goal.loop-item-preserved
 loop-item-preserved g c =
@@ -27,7 +26,7 @@ loop-item-preserved g c =
     let equal : f x ≡ f y = if_true c.if-not-same.false c.same.ensures in
     let before : (docs_of (map f xs) ≡ docs_of (map f (iter_rest c.iter-others.result))) ↔ (doc (f x) left ≡ doc (f y) right) = rw (← here, ← there) l.invariant.same in
     record {
-      left_whole = or_second _ _ (sym (fraction_split f xs l.item-index x within c.item-item.is) ∙ l.invariant.left_whole);
-      right_whole = or_second _ _ (sym (ap docs_have_fraction there ∙ docs_have_fraction-cons (f y) right) ∙ l.invariant.right_whole);
+      left_whole = items_whole _ _ _ here l.invariant.left_whole;
+      right_whole = items_whole _ _ _ there l.invariant.right_whole;
       same = same_items _ _ _ _ _ _ before equal;
     }

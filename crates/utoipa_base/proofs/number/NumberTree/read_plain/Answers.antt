@@ -1,6 +1,6 @@
-use Rattle.std.proofs.Common.{◌≡◌, w64, rules, sym, ap, ◌∙◌, Some}
+use Rattle.std.proofs.Common.{w64, rules, sym, ap, ◌∙◌, Some}
 use Rattle.std.proofs.lemmas.Int.{to_z-of_z}
-use mir.Val.{SFits, to_z, of_z}
+use mir.Val.{SFits}
 use Rattle.utoipa_base.specs.Docs.{int_doc}
 use Rattle.utoipa_base.proofs.Numerals.{reads_int, int_small}
 use Rattle.utoipa_base.proofs.number.NumberTree.read_plain.Goals as goal

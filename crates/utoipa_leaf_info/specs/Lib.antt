@@ -1,0 +1,3 @@
+pub mod Example
+pub mod Info
+pub mod Xml

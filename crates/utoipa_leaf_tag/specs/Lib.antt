@@ -1,0 +1,2 @@
+pub mod ExternalDocs
+pub mod Tag
