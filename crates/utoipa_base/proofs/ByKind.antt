@@ -1,14 +1,12 @@
 -- What each kind reads a tree as, and how it is written.
-use Rattle.std.proofs.Common.{◌≡◌, ℕ, List, [], ◌∷◌, ◌++◌, Bool, true, false, Option, Some, None, option_map, option_and_then, cond, map, refl, sym, ap, ◌∙◌, String, Vec, Global, string_bytes, nat_cmp, suc, ◌+◌, ◌<◌, length, get_or, drop, drop-cons, add-one}
-use Rattle.std.specs.Ordering.{match_ordering}
-use Rattle.std.specs.Cmp.Lexicographic.{slice_cmp}
-use Rattle.serde_json.specs.Data.{Num, unsigned, Data, null, boolean, number, string, array, object, Items, no_items, item, Members, no_members, member}
-use Rattle.serde_json.specs.Find.{get, get_member, as_str, as_bool, as_number, as_array, as_object, as_u64}
+use Rattle.std.proofs.Common.{◌≡◌, ℕ, List, [], ◌∷◌, ◌++◌, Bool, Option, Some, None, option_map, option_and_then, map, refl, sym, ap, ◌∙◌, Vec, Global, suc, ◌+◌, ◌<◌, length, get_or, drop, drop-cons, add-one}
+use Rattle.serde_json.specs.Data.{unsigned, Data, null, boolean, number, string, array, object, Items, item}
+use Rattle.serde_json.specs.Find.{as_str, as_bool, as_number, as_array, as_u64}
 use Rattle.serde_json.specs.View.{view, items_of, items_view}
 use Rattle.serde_json.specs.declared.value.Value.{Value, Array, Object, the_lemmas}
-use Rattle.serde_json.proofs.Views.{view-Array, view-Object}
+use Rattle.serde_json.proofs.Views.{view-Array}
 use Rattle.utoipa_base.specs.Kinds.{Kind, text, flag, whole, any, list_of}
-use Rattle.utoipa_base.specs.Docs.{Doc, text_doc, flag_doc, whole_doc, tree_doc, list_doc, Docs, no_docs, doc, docs_of}
+use Rattle.utoipa_base.specs.Docs.{Doc, text_doc, flag_doc, whole_doc, tree_doc, list_doc, Docs, no_docs, docs_of}
 use Rattle.utoipa_base.specs.Reading.{reader, item_readers, read, read_items, both}
 use Rattle.utoipa_base.specs.Writing.{write, write_items}
 

@@ -1,5 +1,5 @@
 -- A table's rows, read and written.
-use Rattle.std.proofs.Common.{◌≡◌, ℕ, List, [], ◌∷◌, ◌++◌, Bool, true, false, Option, Some, None, option_map, option_and_then, refl, sym, ap, ◌∙◌, Bor, nat_cmp, is_some, String, Global, BTreeMap, Result, Ok, Err, IfErr, subst, Ordering, Less, Equal, Greater, cond}
+use Rattle.std.proofs.Common.{◌≡◌, ℕ, List, [], ◌∷◌, Bool, true, false, Option, Some, None, option_map, refl, sym, ap, ◌∙◌, nat_cmp, is_some, String, Global, BTreeMap, Result, Ok, Err, IfErr, subst, Ordering, Less, Equal, Greater}
 use Rattle.std.specs.Ordering.{match_ordering}
 use Rattle.std.specs.Cmp.Lexicographic.{slice_cmp}
 use Rattle.serde_json.specs.Data.{Data, null, boolean, number, string, array, object, Members, no_members, member, put}
@@ -12,7 +12,7 @@ use Rattle.utoipa_base.specs.declared.fault.ReadFault.{ReadFault}
 use Rattle.utoipa_base.specs.declared.fault.ReadFault.TheVariants.{Memory, Fraction, Missing, Kind as no_kind, Word, Alternative, Text}
 use Rattle.utoipa_base.specs.Faults.{Refuses}
 use Rattle.utoipa_base.specs.Kinds.{ObjectType, Kind, named, Mark, required, optional, nullable, defaulted, Row}
-use Rattle.utoipa_base.specs.Docs.{Doc, none_doc, some_doc, table_doc, Docs, no_docs, doc, option_doc}
+use Rattle.utoipa_base.specs.Docs.{Doc, none_doc, some_doc, table_doc, Docs, no_docs, doc}
 use Rattle.utoipa_base.specs.Tables.{table, has_extensions, row}
 use Rattle.utoipa_base.specs.Extensions.{extensions_of, extensions_at, members_or_none}
 use Rattle.utoipa_base.specs.Reading.{reader, parts, part, fits, read, read_rows, both, is_null}

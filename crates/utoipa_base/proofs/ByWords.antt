@@ -1,5 +1,5 @@
 -- Words, looked up by their text, read and written.
-use Rattle.std.proofs.Common.{◌≡◌, ℕ, List, [], ◌∷◌, Bool, true, false, ◌||◌, Option, Some, None, option_map, option_and_then, is_some, if◌then◌else◌, map, refl, sym, ap, subst, ◌∙◌, ◌↔◌}
+use Rattle.std.proofs.Common.{◌≡◌, ℕ, List, [], ◌∷◌, Bool, true, false, Option, Some, None, option_and_then, is_some, if◌then◌else◌, map, refl, sym, ap, ◌∙◌, ◌↔◌}
 use Rattle.std.proofs.lemmas.Slice.Eq.{bytes_eq-Decides}
 use Rattle.std.specs.List.{list_any}
 use Rattle.std.specs.Str.{bytes_eq}
@@ -7,7 +7,7 @@ use Rattle.serde_json.specs.Data.{Data, null, boolean, number, string, array, ob
 use Rattle.serde_json.specs.Find.{as_str}
 use Rattle.serde_json.specs.declared.value.Value.{the_lemmas}
 use Rattle.utoipa_base.specs.Kinds.{Vocabulary, word_of}
-use Rattle.utoipa_base.specs.Docs.{Doc, word_doc}
+use Rattle.utoipa_base.specs.Docs.{word_doc}
 use Rattle.utoipa_base.specs.Reading.{reader, read, read_word}
 use Rattle.utoipa_base.specs.Values.{schema_count}
 use Rattle.utoipa_base.specs.Vocabularies.{with_text, found_if}
@@ -16,6 +16,7 @@ use Rattle.utoipa_base.specs.Writing.{write}
 
 -- ---- the value that a text names
 
+-- what is found first, or else among the rest, has the text
 found_by : {W : Type 0} (f : W → List ℕ) (b : Bool) (v w : W) (o : Option W) (s : List ℕ) → bytes_eq s (f v) ≡ b → (o ≡ Some w → s ≡ f w) → (if b then Some v else o) ≡ Some w → s ≡ f w
 found_by f true v w o s same later e = let is : v ≡ w = cc in (bytes_eq-Decides s (f v)).0 same ∙ ap f is
 found_by f false v w o s same later e = later e
@@ -30,6 +31,7 @@ pub found_exactly : {W : Type 0} (f : W → List ℕ) (ws : List W) (s : List �
     → (w : W) → (r ≡ Some w) ↔ (s ≡ f w)
 found_exactly f ws s r each is w = ((λ e. found_has f ws s w (sym is ∙ e)), λ e. is ∙ ap (with_text f ws) e ∙ each w)
 
+-- an option without a value is none
 none_if : {W : Type 0} (o : Option W) → is_some o ≡ false → o ≡ None
 none_if None e = refl
 none_if (Some w) e = cc
@@ -43,6 +45,7 @@ unknown_exactly f ws v s r are is =
 
 -- ---- words as documents
 
+-- a text is read as a word where it is one
 pub read-word : (v : Vocabulary) (d : Data) → read (word_of v) d ≡ option_and_then (λ s. read_word (is_word v s) s) (as_str d)
 unfolding reader
 read-word v null = refl
@@ -52,10 +55,12 @@ read-word v (string s) = refl
 read-word v (array ds) = refl
 read-word v (object ms) = refl
 
+-- a word is written as its text
 pub write-word : (s : List ℕ) → write (word_doc s) ≡ string s
 unfolding write
 write-word s = refl
 
+-- a word holds no schema
 pub schema_count-word : (s : List ℕ) → schema_count (word_doc s) ≡ 0
 unfolding schema_count
 schema_count-word s = refl

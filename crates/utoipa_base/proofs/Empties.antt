@@ -1,5 +1,5 @@
 -- Which values count as empty.
-use Rattle.std.proofs.Common.{◌≡◌, ℕ, List, [], ◌∷◌, Bool, true, false, map, length, String, Global, string_bytes, refl, arith, ◌↔◌, IsTrue, ◌==◌, suc, ap, ◌∙◌}
+use Rattle.std.proofs.Common.{◌≡◌, ℕ, List, [], ◌∷◌, Bool, true, false, map, length, String, Global, refl, arith, ◌↔◌, IsTrue, ◌==◌, suc, ap, ◌∙◌}
 use Rattle.std.proofs.lemmas.Bool.Decides.{nat_tests}
 use Rattle.utoipa_base.specs.Docs.{Doc, docs_of, entries_of_list}
 use Rattle.utoipa_base.specs.Views.{pairs_of}

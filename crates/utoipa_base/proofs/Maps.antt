@@ -1,7 +1,7 @@
 -- A map's entries beside the members that they are read from and written as.
-use Rattle.std.proofs.Common.{◌≡◌, ℕ, List, [], ◌∷◌, ◌++◌, Bool, true, false, Option, Some, None, option_map, option_and_then, map, refl, sym, ap, ◌∙◌, String, BTreeMap, Global, Ordering, Less, Equal, Greater, string_bytes, string_cmp, nat_cmp, cond}
+use Rattle.std.proofs.Common.{◌≡◌, ℕ, List, [], ◌∷◌, ◌++◌, Option, Some, None, option_map, option_and_then, map, refl, sym, ap, ◌∙◌, String, BTreeMap, Global, Less, Greater, string_bytes, string_cmp, nat_cmp}
 use Rattle.std.proofs.lemmas.Cmp.{nat_list_cmp_total}
-use Rattle.std.specs.Ordering.{match_ordering, ordering_reverse}
+use Rattle.std.specs.Ordering.{ordering_reverse}
 use Rattle.std.specs.Cmp.Lexicographic.{slice_cmp}
 use Rattle.std.specs.List.{AllByRecursion}
 use Rattle.std.specs.List.Sorted.{IsStrictlySortedBy}
@@ -13,7 +13,7 @@ use Rattle.serde_json.specs.View.{view, members_view}
 use Rattle.serde_json.specs.declared.value.Value.{Value, Object}
 use Rattle.serde_json.proofs.Views.{Entry, view-Object}
 use Rattle.utoipa_base.specs.Kinds.{Kind, map_of}
-use Rattle.utoipa_base.specs.Docs.{Doc, map_doc, Entries, no_entries, entry, entries_of_list}
+use Rattle.utoipa_base.specs.Docs.{Doc, map_doc, Entries, no_entries, entries_of_list}
 use Rattle.utoipa_base.specs.Views.{pairs_of}
 use Rattle.utoipa_base.specs.Reading.{reader, parts, read, read_entries, both_entries}
 use Rattle.utoipa_base.specs.Writing.{write, write_entries}

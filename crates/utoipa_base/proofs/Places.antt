@@ -1,14 +1,13 @@
 -- References, and what stands in their place.
-use Rattle.std.proofs.Common.{string_bytes, ◌≡◌, ℕ, Bool, zero, suc, ◌+◌, ◌<◌, ◌≤◌, List, [], ◌∷◌, ◌++◌, true, false, Option, Some, None, option_map, refl, sym, ap, ◌∙◌, arith, nat_lt, if◌then◌else◌}
+use Rattle.std.proofs.Common.{string_bytes, ◌≡◌, ℕ, Bool, ◌+◌, ◌<◌, ◌≤◌, List, false, Option, Some, None, option_map, refl, ap, ◌∙◌, arith, nat_lt, if◌then◌else◌}
 use Rattle.std.proofs.lemmas.Bool.Decides.{nat_tests}
 use Rattle.serde_json.specs.Data.{Data, null, boolean, number, string, array, object, Members}
-use Rattle.serde_json.specs.Find.{get, get_member}
 use Rattle.utoipa_base.specs.declared.fault.ReadFault.{ReadFault}
 use Rattle.utoipa_base.specs.declared.fault.ReadFault.TheVariants.{Memory, Fraction, Missing, Kind as no_kind, Word, Alternative, Text}
 use Rattle.utoipa_base.specs.Faults.{Refuses}
 use Rattle.utoipa_base.specs.Kinds.{ObjectType, reference_object, Kind, text, flag, list_of, map_of, named, schema, schema_type, ref_or}
 use Rattle.utoipa_base.specs.Docs.{Doc, text_doc, flag_doc, whole_doc, tree_doc, none_doc, some_doc, ref_doc, own_doc, list_doc, map_doc, table_doc, Docs, no_docs, doc, Entries, no_entries}
-use Rattle.utoipa_base.specs.Reading.{reader, read, or_else, read_ref_or, empty_doc}
+use Rattle.utoipa_base.specs.Reading.{reader, read, or_else, empty_doc}
 use Rattle.utoipa_base.specs.Writing.{write}
 use Rattle.serde_json.specs.View.{view}
 use Rattle.utoipa_base.specs.Views.{text_of, tree_of, option_of}

@@ -1,5 +1,5 @@
 -- A field of an object by the row of its member, as it is read and as it is written.
-use Rattle.std.specs.Prelude.{ℕ, List, [], ◌∷◌, Bool, true, false, Option, None, Some, option_map, if◌then◌else◌}
+use Rattle.std.specs.Prelude.{ℕ, List, [], ◌∷◌, Option, None, Some, option_map, if◌then◌else◌}
 use Rattle.serde_json.specs.Data.{Data, Members}
 use Rattle.serde_json.specs.Find.{get}
 use Rattle.utoipa_base.specs.Kinds.{Kind, Mark, required, optional, nullable, defaulted, Row}

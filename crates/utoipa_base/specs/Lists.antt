@@ -1,5 +1,5 @@
 -- Lists that are filled from iterators.
-use Rattle.std.specs.Prelude.{◌≡◌, Option, None, Some, Vec}
+use Rattle.std.specs.Prelude.{Option, None, Some, Vec}
 use Rattle.std.specs.Iterator.{Drains}
 use Rattle.std.specs.declared.alloc.Global.{Global}
 

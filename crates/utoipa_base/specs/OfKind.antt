@@ -1,13 +1,12 @@
 -- Why each value of the basic types is a document of its type's kind.
-use Rattle.std.specs.Prelude.{◌≡◌, ℕ, List, [], ◌∷◌, Bool, true, false, Option, None, Some, map, option_map, String, string_bytes, refl}
+use Rattle.std.specs.Prelude.{ℕ, List, [], ◌∷◌, Bool, true, false, Option, None, Some, map, String, refl}
 use Rattle.std.specs.declared.alloc.Global.{Global}
 use Rattle.std.specs.BTreeMap.{BTreeMap}
 use Rattle.std.specs.Prelude.{Vec}
 use Rattle.serde_json.specs.Data.{Members}
-use Rattle.serde_json.specs.View.{view}
 use Rattle.serde_json.specs.declared.value.Value.{Value}
 use Rattle.utoipa_base.specs.Kinds.{Kind, text, flag, any, whole, numeral, list_of, map_of, ref_or, named, reference_object}
-use Rattle.utoipa_base.specs.Docs.{Doc, text_doc, flag_doc, whole_doc, tree_doc, docs_of, entries_of_list}
+use Rattle.utoipa_base.specs.Docs.{Doc, flag_doc, whole_doc, docs_of, entries_of_list}
 use Rattle.utoipa_base.specs.Shape.{Place, value_of, option_of, IsOf, ItemsOf, EntriesOf, RowsOf, Extends}
 use Rattle.utoipa_base.specs.Views as views
 use Rattle.utoipa_base.specs.Refs.{reference_doc, ref_or_doc}

@@ -1,5 +1,5 @@
 -- The documents of references, and of what stands in place of one.
-use Rattle.std.specs.Prelude.{Bool, Option, None}
+use Rattle.std.specs.Prelude.{None}
 use Rattle.utoipa_base.specs.Kinds.{Kind, reference_object}
 use Rattle.utoipa_base.specs.Docs.{Doc, flag_doc, table_doc, ref_doc, own_doc, no_docs, doc}
 use Rattle.utoipa_base.specs.Views.{text_of, tree_of, option_of}

@@ -6,7 +6,7 @@ use Rattle.std.specs.Str.{bytes_eq}
 use Rattle.utoipa_base.specs.Docs.{Doc, word_doc}
 use Rattle.utoipa_base.specs.Kinds.{Vocabulary, word_of}
 use Rattle.utoipa_base.specs.Shape.{IsOf, value_of}
-use Rattle.utoipa_base.specs.Words.{words, is_word}
+use Rattle.utoipa_base.specs.Words.{words}
 
 -- the first of the values whose text this is
 abbrev pub with_text : {W : Type 0} → (W → List ℕ) → List W → List ℕ → Option W

@@ -1,6 +1,6 @@
 -- Which documents are plain, and which are well-formed. A well-formed document reads back from its own tree.
-use Rattle.std.specs.Prelude.{◌≡◌, ◌||◌, ◌&&◌, ℕ, List, [], ◌∷◌, Bool, true, false, not, Option, None, Some, option_and_then, is_none, codes}
-use Rattle.serde_json.specs.Data.{Data, Members, no_members, member}
+use Rattle.std.specs.Prelude.{◌≡◌, ◌||◌, ◌&&◌, ℕ, List, Bool, true, false, not, Option, None, Some, option_and_then, codes}
+use Rattle.serde_json.specs.Data.{Data, Members}
 use Rattle.serde_json.specs.Find.{get, as_str}
 use Rattle.serde_json.specs.Written.{has_float, members_have_float}
 use Rattle.utoipa_base.specs.Kinds.{Kind}

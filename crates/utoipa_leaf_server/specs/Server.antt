@@ -1,9 +1,9 @@
 -- The documents of servers and their variables.
-use Rattle.std.specs.Prelude.{◌≡◌, None, option_map, refl, String, Vec}
+use Rattle.std.specs.Prelude.{None, option_map, refl, String, Vec}
 use Rattle.std.specs.BTreeMap.{BTreeMap}
 use Rattle.std.specs.declared.alloc.Global.{Global}
 use Rattle.utoipa_base.specs.Kinds.{named, server_object, server_variable_object, text, list_of, map_of}
-use Rattle.utoipa_base.specs.Docs.{Doc, table_doc, no_entries, no_docs, doc}
+use Rattle.utoipa_base.specs.Docs.{Doc, table_doc, no_docs, doc}
 use Rattle.utoipa_base.specs.Extensions.{extensions_view}
 use Rattle.utoipa_base.specs.Views.{text_of, option_of, list_of_docs, map_of_docs}
 use Rattle.utoipa_leaf_server.specs.declared.server.Server.{Server}

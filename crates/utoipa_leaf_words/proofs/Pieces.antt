@@ -1,5 +1,5 @@
 -- The pieces of a version text: the numbers that count, and the text piece by piece.
-use Rattle.std.proofs.Common.{◌≡◌, ◌≢◌, ℕ, suc, ◌<◌, ◌≤◌, ◌^◌, ℤ, pos, negsuc, List, [], ◌∷◌, ◌++◌, Bool, true, false, not, ◌&&◌, ◌==◌, Option, None, Some, Result, length, get_or, if◌then◌else◌, refl, sym, ap, subst, ◌∙◌, arith, append-nil, append_assoc, ne_eqb, w8}
+use Rattle.std.proofs.Common.{◌≡◌, ◌≢◌, ℕ, suc, ◌<◌, ◌≤◌, ℤ, pos, negsuc, List, [], ◌∷◌, ◌++◌, Bool, true, false, ◌&&◌, ◌==◌, None, Some, length, get_or, if◌then◌else◌, refl, sym, ap, subst, ◌∙◌, arith, append-nil, append_assoc, ne_eqb, w8}
 use mir.Val.{SFits, to_z, of_z}
 use Rattle.std.proofs.lemmas.Bool.Decides.{nat_tests, Decides-and}
 use Rattle.std.proofs.lemmas.Int.{to_z-of_z}
@@ -9,19 +9,22 @@ use Rattle.std.specs.Bool.{Decides}
 use Rattle.std.specs.Char.{digit_value}
 use Rattle.std.specs.List.{list_all}
 use Rattle.std.specs.Str.Parse.{AllDigits, IsNumeral, without_leading_sign, signed_digits_value}
-use Rattle.utoipa_base.specs.Version.{pieces_after, is_digit, is_empty_text, are_digits, is_byte, piece_number}
+use Rattle.utoipa_base.specs.Version.{pieces_after, is_digit, are_digits, is_byte, piece_number}
 
 -- ---- the number of a piece
 
+-- what std counts as a decimal digit is a digit
 is_digit-from : (c : ℕ) → digit_value c < 10 → is_digit c ≡ true
 is_digit-from c h = let k = digit_from_value c h in grind (arith, nat_tests)
 
+-- a digit is what std counts as a decimal digit
 from-is_digit : (c : ℕ) → is_digit c ≡ true → digit_value c < 10
 from-is_digit c e =
     let low : 48 ≤ c = grind (arith, nat_tests) in
     let high : c ≤ 57 = grind (arith, nat_tests) in
     omega (arith, digit_value_digit c (low, high))
 
+-- each byte is a digit, as std says it
 all_digits : (ds : List ℕ) → Decides (list_all is_digit ds) (AllDigits 10 ds)
 all_digits [] = ((λ _. tt), λ _. refl)
 all_digits (c ∷ cs) = Decides-and (is_digit c) (list_all is_digit cs) (from-is_digit c, is_digit-from c) (all_digits cs)
@@ -36,9 +39,11 @@ fits : (z : ℤ) → Decides (is_byte z) (SFits w8 z)
 fits (pos n) = ((λ e. record { sfits = grind (arith, nat_tests) }), λ h. let k = h.sfits in grind (arith, nat_tests))
 fits (negsuc n) = ((λ e. record { sfits = grind (arith, nat_tests) }), λ h. let k = h.sfits in grind (arith, nat_tests))
 
+-- a piece counts, as std says it
 counts : (s : List ℕ) → Decides (are_digits (without_leading_sign s) && is_byte (signed_digits_value 10 s)) (IsNumeral 10 (without_leading_sign s) × SFits w8 (signed_digits_value 10 s))
 counts s = Decides-and _ _ (numeral (without_leading_sign s)) (fits (signed_digits_value 10 s))
 
+-- a test of what does not hold is false
 decided_not : {P : Type 0} (b : Bool) → Decides b P → ¬ P → b ≡ false
 decided_not true d n = absurd (n (d.0 refl))
 decided_not false d n = refl
@@ -59,9 +64,11 @@ uncounted s n = sym (ap (λ b. if b then Some (signed_digits_value 10 s) else No
 abbrev pub LacksDot : List ℕ → Type 0
 LacksDot xs = (i : ℕ) → i < length xs → get_or xs i 0 ≢ 46
 
+-- the rest of a text without a dot has none
 rest_lacks : (x : ℕ) (xs : List ℕ) → LacksDot (x ∷ xs) → LacksDot xs
 rest_lacks x xs free i l = free (suc i) (omega arith)
 
+-- the first byte of a text without a dot is none
 first_apart : (x : ℕ) (xs : List ℕ) → LacksDot (x ∷ xs) → (x == 46) ≡ false
 first_apart x xs free = ne_eqb x 46 (free 0 (omega arith))
 

@@ -7,7 +7,7 @@ use Rattle.serde_json.specs.declared.value.Value.{the_lemmas}
 use Rattle.utoipa_base.specs.Docs.{word_doc}
 use Rattle.utoipa_base.specs.Kinds.{version}
 use Rattle.utoipa_base.specs.Reading.{reader, read}
-use Rattle.utoipa_base.specs.Version.{read_version, version_of, pieces_after, piece_number, piece_numbers, and_number}
+use Rattle.utoipa_base.specs.Version.{read_version, pieces_after, piece_number, piece_numbers, and_number}
 use Rattle.utoipa_base.proofs.ByWords.{write-word, schema_count-word}
 use Rattle.utoipa_leaf_words.specs.Version.{version_after}
 use Rattle.utoipa_leaf_words.specs.declared.version.Numbers.{Numbers}

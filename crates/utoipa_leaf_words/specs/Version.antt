@@ -1,5 +1,5 @@
 -- The versions of the standard, and the numbers of a version text that is read piece by piece.
-use Rattle.std.specs.Prelude.{◌≡◌, ℕ, ℤ, pos, List, [], ◌∷◌, Option, None, Some, codes, refl}
+use Rattle.std.specs.Prelude.{ℕ, ℤ, pos, List, [], ◌∷◌, Option, None, Some, codes, refl}
 use Rattle.utoipa_base.specs.Docs.{Doc, word_doc}
 use Rattle.utoipa_base.specs.Kinds.{version}
 use Rattle.utoipa_base.specs.Shape.{IsOf, value_of}

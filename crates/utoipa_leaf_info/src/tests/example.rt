@@ -2,6 +2,7 @@ use crate::example::{Example, ExampleBuilder};
 use crate::tests::{copied, extension, rewritten, text, wanted, written};
 use serde_json::Value;
 use std::test::Fail;
+use utoipa_base::RefOr;
 
 #[test]
 fn an_example_is_written(rt: HostRuntime) -> Result<(), Fail> {
@@ -76,5 +77,18 @@ fn examples_with_another_kind_are_refused(rt: HostRuntime) -> Result<(), Fail> {
         wanted::<Example>(alloc, "{\"externalValue\":[]}")?,
         Some("text")
     );
+    Ok(())
+}
+
+#[test]
+fn what_is_no_reference_is_an_example(rt: HostRuntime) -> Result<(), Fail> {
+    let alloc = rt.alloc();
+    let ignored = "{\"$ref\":\"#/a\",\"readOnly\":1,\"value\":2}";
+    assert_eq!(rt;
+        rewritten::<RefOr<Example>>(alloc, ignored)?.as_str(),
+        "{\"value\":2}"
+    );
+    let neither = "{\"$ref\":\"#/a\",\"description\":null}";
+    assert_eq!(rt; wanted::<RefOr<Example>>(alloc, neither)?, Some("text"));
     Ok(())
 }

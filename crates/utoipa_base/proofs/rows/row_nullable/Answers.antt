@@ -1,4 +1,3 @@
-use Rattle.std.proofs.Common.{rules}
 use Rattle.utoipa_base.proofs.ByRows.{field-nullable}
 use Rattle.utoipa_base.proofs.rows.row_nullable.Goals as goal
 

@@ -1,4 +1,4 @@
-use Rattle.std.proofs.Common.{◌≡◌, refl, ◌+◌, arith, None, Some, List, [], ◌∷◌, ◌++◌, ◌∙◌, ap, sym, subst, append_assoc, append-nil, map, String, Global, string_bytes, string_cmp, rules}
+use Rattle.std.proofs.Common.{◌≡◌, refl, ◌+◌, arith, None, Some, [], ◌∷◌, ◌++◌, ◌∙◌, ap, sym, subst, append_assoc, string_bytes, string_cmp, rules}
 use Rattle.std.proofs.lemmas.List.{map-append}
 use Rattle.std.specs.List.Sorted.{IsStrictlySortedBy}
 use Rattle.std.specs.Map.{keys_of}
@@ -11,8 +11,6 @@ use Rattle.utoipa_base.proofs.Values.{members_values-cons, object_values, entrie
 use Rattle.utoipa_base.proofs.Places.{counted_more, entries_schema_count-none, schema_count-map}
 use Rattle.utoipa_base.specs.Docs.{entries_of_list}
 use Rattle.utoipa_base.specs.Values.{values, members_values, entries_schema_count}
-use Rattle.utoipa_base.specs.Kinds.{map_of}
-use Rattle.utoipa_base.specs.Reading.{read}
 use Rattle.utoipa_base.proofs.Maps.{texts, entries_read, prepend_entries, insert_last, entries_read-step, entries_read-stop, entries_read-end, map_by_entries}
 use Rattle.utoipa_base.proofs.tree.BTreeMapStringTree.read_plain.Goals as goal
 

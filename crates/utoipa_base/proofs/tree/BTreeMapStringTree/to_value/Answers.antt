@@ -1,8 +1,6 @@
-use Rattle.std.proofs.Common.{◌≡◌, List, [], ◌∷◌, ◌++◌, ◌∙◌, ap, sym, subst, append_assoc, append-nil, String, Global, string_bytes, string_cmp, rules}
+use Rattle.std.proofs.Common.{◌≡◌, [], ◌∷◌, ◌++◌, ◌∙◌, ap, sym, subst, append_assoc, append-nil, String, Global, string_cmp}
 use Rattle.std.specs.List.Sorted.{IsStrictlySortedBy}
 use Rattle.std.specs.Map.{keys_of}
-use Rattle.serde_json.specs.Data.{Data, put}
-use Rattle.serde_json.specs.View.{view, members_view}
 use Rattle.utoipa_base.specs.Writing.{write}
 use Rattle.utoipa_base.proofs.Maps.{members_by, put_last, write-map_of_entries}
 use Rattle.utoipa_base.proofs.tree.BTreeMapStringTree.to_value.Goals as goal

@@ -1,13 +1,11 @@
-use Rattle.std.proofs.Common.{rules, ◌≡◌, ◌∙◌, ◌≤◌, ◌<◌, ◌+◌, sym, ap, arith, true, false, None, Some, IfOk, IfErr}
-use Rattle.std.proofs.lemmas.Grind.{common_steps}
+use Rattle.std.proofs.Common.{rules, ◌≡◌, ◌∙◌, sym, arith, None}
 use Rattle.serde_json.specs.View.{view}
-use Rattle.utoipa_base.specs.Kinds.{reference_object, named, ref_or}
-use Rattle.utoipa_base.specs.Docs.{ref_doc}
+use Rattle.utoipa_base.specs.Kinds.{reference_object, named}
 use Rattle.utoipa_base.specs.Reading.{read}
 use Rattle.utoipa_base.specs.Refs.{reference_doc}
-use Rattle.utoipa_base.specs.Values.{schema_count, is_schema}
+use Rattle.utoipa_base.specs.Values.{is_schema}
 use Rattle.utoipa_base.proofs.ByRows.{passes_on}
-use Rattle.utoipa_base.proofs.Places.{ref_reads, own_reads, own_none, own_places, reference_counted, reference_uncounted, refused, ticked_least}
+use Rattle.utoipa_base.proofs.Places.{ref_reads, own_reads, own_none, reference_counted, reference_uncounted, ticked_least}
 use Rattle.utoipa_base.proofs.tree.Tree.read_ref_or.Goals as goal
 use Rattle.utoipa_base.proofs.tree.Tree.read_ref_or.Goals.{then-IS_SCHEMA, else-IS_SCHEMA}
 

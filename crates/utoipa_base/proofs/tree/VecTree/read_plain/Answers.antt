@@ -1,16 +1,13 @@
-use Rattle.std.proofs.Common.{◌≡◌, None, Some, map, drop, length, List, [], ◌∷◌, ◌++◌, ◌∙◌, ◌+◌, ◌<◌, ap, sym, arith, rules}
+use Rattle.std.proofs.Common.{◌≡◌, None, Some, map, drop, length, [], ◌∷◌, ◌++◌, ◌∙◌, ◌+◌, ◌<◌, ap, sym, arith, rules}
 use Rattle.std.proofs.lemmas.Grind.{common_steps}
 use Rattle.std.proofs.lemmas.List.{map-append}
 use Rattle.serde_json.specs.Find.{as_array}
 use Rattle.serde_json.specs.View.{view, items_view}
-use Rattle.utoipa_base.specs.Kinds.{list_of}
-use Rattle.utoipa_base.specs.Docs.{list_doc}
 use Rattle.utoipa_base.proofs.ByRows.{passes_on}
 use Rattle.utoipa_base.proofs.Values.{items_values-drop, array_values, docs_schema_count-last}
 use Rattle.utoipa_base.proofs.Places.{counted_more, docs_schema_count-none, schema_count-list}
 use Rattle.utoipa_base.specs.Docs.{docs_of}
-use Rattle.utoipa_base.specs.Values.{items_values, docs_schema_count, schema_count}
-use Rattle.utoipa_base.specs.Reading.{read}
+use Rattle.utoipa_base.specs.Values.{docs_schema_count, schema_count}
 use Rattle.utoipa_base.proofs.ByKind.{values_read, prepend, values_read-step, values_read-stop, values_read-end, drop_item, list_by_items}
 use Rattle.utoipa_base.proofs.tree.VecTree.read_plain.Goals as goal
 
