@@ -92,7 +92,7 @@ part_by Less f a x y e = e
 part_by Equal f a x y e = refl
 part_by Greater f a x y e = e
 
-part-parts : (name : List ℕ) (ms : Members) → part name (parts ms) ≡ option_map (λ d. (is_null d, reader d)) (get_member name ms)
+pub part-parts : (name : List ℕ) (ms : Members) → part name (parts ms) ≡ option_map (λ d. (is_null d, reader d)) (get_member name ms)
 unfolding parts
 part-parts name no_members = refl
 part-parts name (member k d ms) = part_by (slice_cmp nat_cmp name k) (λ e. (is_null e, reader e)) d _ _ (part-parts name ms)

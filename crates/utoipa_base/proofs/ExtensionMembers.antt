@@ -5,7 +5,7 @@ use Rattle.std.proofs.lemmas.Map.{lookup-none}
 use Rattle.std.proofs.lemmas.Map.Lookups.{exact_bytes}
 use Rattle.std.proofs.lemmas.Map.Entries.{none_below_head}
 use Rattle.std.specs.Option.{option_or}
-use Rattle.std.specs.Ordering.{match_ordering, ordering_reverse}
+use Rattle.std.specs.Ordering.{match_ordering}
 use Rattle.std.specs.Cmp.{IsTotalOrder, on_total}
 use Rattle.std.specs.Cmp.Lexicographic.{slice_cmp}
 use Rattle.std.specs.List.{AllByRecursion}
@@ -17,16 +17,12 @@ use Rattle.serde_json.specs.Find.{get_member}
 use Rattle.serde_json.specs.View.{view, members_view}
 use Rattle.serde_json.specs.declared.value.Value.{Value}
 use Rattle.serde_json.proofs.Views.{Entry, members_view-insert_entry, get_member-put, get_member-put_other}
+use Rattle.utoipa_base.proofs.Maps.{above}
 use Rattle.utoipa_base.specs.Extensions.{is_extension, extension_members, put_pairs, overlaid}
 use Rattle.utoipa_base.specs.Merging.{restored, put_back, undone}
 use Rattle.utoipa_base.specs.declared.extensions.merging.Replaced.{Replaced}
 
 -- ---- the members whose names begin `x-`
-
--- a name that comes after others is above the first of them
-above : (first : Entry) (es : List Entry) (e : Entry) (more : List Entry) → AllByRecursion (λ y. string_cmp first.0 y ≡ Less) (keys_of (es ++ e ∷ more)) → slice_cmp nat_cmp (string_bytes e.0) (string_bytes first.0) ≡ Greater
-above first [] e more h = nat_list_cmp_total.antisymm (string_bytes e.0) (string_bytes first.0) ∙ ap ordering_reverse h.0
-above first (x ∷ es) e more h = above first es e more h.1
 
 -- one member at the front, whether it is an extension (c) or not
 past_one : (x : Entry) (done : List Entry) (e : Entry) (b c : Bool) → is_extension (string_bytes x.0) ≡ c → slice_cmp nat_cmp (string_bytes e.0) (string_bytes x.0) ≡ Greater

@@ -83,7 +83,7 @@ map_by_entries k d es o is read_as = read-map k d ∙ ap (option_and_then (λ ms
 abbrev pub texts : {X : Type 0} → List (String Global × X) → List (List ℕ)
 texts es = map (λ e. string_bytes e.0) es
 
-above : {X : Type 0} (first : String Global × X) (es : List (String Global × X)) (e : String Global × X) (more : List (String Global × X)) → AllByRecursion (λ y. string_cmp first.0 y ≡ Less) (keys_of (es ++ e ∷ more))
+pub above : {X : Type 0} (first : String Global × X) (es : List (String Global × X)) (e : String Global × X) (more : List (String Global × X)) → AllByRecursion (λ y. string_cmp first.0 y ≡ Less) (keys_of (es ++ e ∷ more))
     → slice_cmp nat_cmp (string_bytes e.0) (string_bytes first.0) ≡ Greater
 above first [] e more h = nat_list_cmp_total.antisymm (string_bytes e.0) (string_bytes first.0) ∙ ap ordering_reverse h.0
 above first (x ∷ es) e more h = above first es e more h.1

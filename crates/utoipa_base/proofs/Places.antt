@@ -34,24 +34,6 @@ own_none j (string s) n e = ap (option_map own_doc) e
 own_none j (array ds) n e = ap (option_map own_doc) e
 own_none j (object ms) n e = ap (λ r. or_else (option_map (ref_doc j) r) (option_map own_doc (read j (object ms)))) n ∙ ap (option_map own_doc) e
 
-pub ref_reads : (j : Kind) (w : Data) (x : Doc) → read (named reference_object) w ≡ Some x → read (ref_or j) w ≡ Some (ref_doc j x)
-unfolding reader
-ref_reads j null x e = cc
-ref_reads j (boolean b) x e = cc
-ref_reads j (number n) x e = cc
-ref_reads j (string s) x e = cc
-ref_reads j (array ds) x e = cc
-ref_reads j (object ms) x e = rw e
-
-pub own_reads : (j : Kind) (w : Data) (x : Doc) → read (named reference_object) w ≡ None → read j w ≡ Some x → read (ref_or j) w ≡ Some (own_doc x)
-unfolding reader
-own_reads j null x n e = ap (option_map own_doc) e
-own_reads j (boolean b) x n e = ap (option_map own_doc) e
-own_reads j (number m) x n e = ap (option_map own_doc) e
-own_reads j (string s) x n e = ap (option_map own_doc) e
-own_reads j (array ds) x n e = ap (option_map own_doc) e
-own_reads j (object ms) x n e = ap (λ r. or_else (option_map (ref_doc j) r) (option_map own_doc (read j (object ms)))) n ∙ ap (option_map own_doc) e
-
 -- a reference in the place of a kind that is no schema counts nothing
 pub reference_uncounted : (k : Kind) (d : Doc) → is_schema k ≡ false → schema_count (ref_doc k d) ≡ 0
 unfolding schema_count

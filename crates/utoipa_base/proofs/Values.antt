@@ -32,7 +32,7 @@ differ xs ys true e other = absurd (other ((bytes_eq-Decides xs ys).0 e))
 differ xs ys false e other = refl
 
 -- a member under another name is passed over
-get_member-skip : (q k : List ℕ) (d : Data) (ms : Members) → (q ≡ k → ⊥) → get_member q (member k d ms) ≡ get_member q ms
+pub get_member-skip : (q k : List ℕ) (d : Data) (ms : Members) → (q ≡ k → ⊥) → get_member q (member k d ms) ≡ get_member q ms
 get_member-skip q k d ms other = either (slice_cmp nat_cmp q k) _ _ (is_eq-slice_cmp q k ∙ differ q k _ refl other)
 
 -- a member under this name is found

@@ -17,22 +17,12 @@ use Rattle.utoipa_base.specs.Fields.{field_of}
 use Rattle.utoipa_base.specs.NormalForm.{normal_extensions}
 use Rattle.utoipa_base.specs.Shape.{Extends}
 use Rattle.utoipa_base.specs.WellFormed.{AllExtensions, no_extension}
+use Rattle.utoipa_base.proofs.ByRows.{part-parts}
+use Rattle.utoipa_base.proofs.Values.{get_member-skip}
 use Rattle.utoipa_base.proofs.BoolFacts.{and_first, and_second, or_first, or_second, not_true, apart}
 use Rattle.utoipa_base.proofs.TableNames.{is_row, is_wanted, is_required, are_apart, first_plain, others_apart}
 
 -- ---- the parts of members
-
--- finding a member and then mapping it is mapping it and then finding it
-part_by : (o : Ordering) {A B : Type 0} (f : A → B) (a : A) (x : Option A) (y : Option B) → y ≡ option_map f x → match_ordering o y (Some (f a)) y ≡ option_map f (match_ordering o x (Some a) x)
-part_by Less f a x y e = e
-part_by Equal f a x y e = refl
-part_by Greater f a x y e = e
-
--- the part of a name is that of the member at the name
-pub part-parts : (name : List ℕ) (ms : Members) → part name (parts ms) ≡ option_map (λ d. (is_null d, reader d)) (get_member name ms)
-unfolding parts
-part-parts name no_members = refl
-part-parts name (member k d ms) = part_by (slice_cmp nat_cmp name k) (λ e. (is_null e, reader e)) d _ _ (part-parts name ms)
 
 -- a part fits as the member that it is made of
 fits_by : (m : Mark) (k : Kind) (o : Option Data) → fits m k (option_map (λ d. (is_null d, reader d)) o) ≡ field_of m k o
@@ -85,21 +75,6 @@ pub first_refused : (r : Row) (rs : List Row) (ms : Members) → field_of r.mark
 first_refused r rs ms e = ap (λ o. both o (read_rows rs (parts ms))) (fits-part r ms ∙ e)
 
 -- ---- which member stands at a name
-
--- where two texts differ, either order gives the same
-either : (o : Ordering) (a b : Option Data) → is_eq o ≡ false → match_ordering o a b a ≡ a
-either Less a b e = refl
-either Equal a b e = absurd (true≢false e)
-either Greater a b e = refl
-
--- texts that are not equal are found apart
-differ : (xs ys : List ℕ) (b : Bool) → bytes_eq xs ys ≡ b → (xs ≡ ys → ⊥) → b ≡ false
-differ xs ys true e other = absurd (other ((bytes_eq-Decides xs ys).0 e))
-differ xs ys false e other = refl
-
--- a member of another name is passed over
-get_member-skip : (q k : List ℕ) (d : Data) (ms : Members) → (q ≡ k → ⊥) → get_member q (member k d ms) ≡ get_member q ms
-get_member-skip q k d ms other = either (slice_cmp nat_cmp q k) _ _ (is_eq-slice_cmp q k ∙ differ q k _ refl other)
 
 -- no extension stands at a name that is no extension's
 pub unnamed : (ms : Members) (q : List ℕ) → all_extensions ms ≡ true → is_extension q ≡ false → get_member q ms ≡ None

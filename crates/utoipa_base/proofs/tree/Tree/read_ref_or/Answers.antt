@@ -1,16 +1,17 @@
-use Rattle.std.proofs.Common.{rules, ◌≡◌, ◌∙◌, sym, arith, None}
+use Rattle.std.proofs.Common.{refl, rules, ◌≡◌, ◌∙◌, sym, arith, None}
 use Rattle.serde_json.specs.View.{view}
+use Rattle.utoipa_base.proofs.Alternatives.{ref_reads, own_reads}
 use Rattle.utoipa_base.specs.Kinds.{reference_object, named}
 use Rattle.utoipa_base.specs.Reading.{read}
 use Rattle.utoipa_base.specs.Refs.{reference_doc}
 use Rattle.utoipa_base.specs.Values.{is_schema}
 use Rattle.utoipa_base.proofs.ByRows.{passes_on}
-use Rattle.utoipa_base.proofs.Places.{ref_reads, own_reads, own_none, reference_counted, reference_uncounted, ticked_least}
+use Rattle.utoipa_base.proofs.Places.{own_none, reference_counted, reference_uncounted, ticked_least}
 use Rattle.utoipa_base.proofs.tree.Tree.read_ref_or.Goals as goal
 use Rattle.utoipa_base.proofs.tree.Tree.read_ref_or.Goals.{then-IS_SCHEMA, else-IS_SCHEMA}
 
 pub returns-after-IS_SCHEMA-clause-ok : goal.returns-after-IS_SCHEMA-clause-ok
-returns-after-IS_SCHEMA-clause-ok g c = ref_reads _ _ _ c.in-Ok.ensures.ok
+returns-after-IS_SCHEMA-clause-ok g c = ref_reads _ _ _ _ refl c.in-Ok.ensures.ok
 
 pub returns-after-IS_SCHEMA-clause-at_least : goal.returns-after-IS_SCHEMA-clause-at_least
 returns-after-IS_SCHEMA-clause-at_least g c =
@@ -32,4 +33,4 @@ returns-in_err-read_plain-in-Err-clause-err g c =
 pub returns-in_ok-read_plain-in-Err-clause-ok : goal.returns-in_ok-read_plain-in-Err-clause-ok
 returns-in_ok-read_plain-in-Err-clause-ok g c =
     let gone : read (named reference_object) (view c.args.tree.now) ≡ None = search rules in
-    own_reads _ _ _ gone c.in_ok-read_plain-in-Err.ensures.ok
+    own_reads _ _ _ _ refl gone c.in_ok-read_plain-in-Err.ensures.ok
