@@ -1,0 +1,134 @@
+-- Flows under their keys, beside the members that they are read from and written as.
+use Rattle.std.proofs.Common.{◌≡◌, ℕ, ◌+◌, List, [], ◌∷◌, ◌++◌, Option, Some, None, option_map, option_and_then, refl, sym, ap, ◌∙◌, arith, String, Global, BTreeMap, Result, Ok, Err, IfOk, ◌<◌, ◌≤◌, Ordering, Less, Equal, Greater, string_bytes, string_cmp, nat_cmp}
+use Rattle.std.specs.BTreeMap.{insert_entry}
+use Rattle.std.specs.Cmp.Lexicographic.{slice_cmp}
+use Rattle.std.specs.Ordering.{match_ordering}
+use Rattle.serde_json.specs.Data.{Data, null, boolean, number, string, array, object}
+use Rattle.serde_json.specs.Find.{as_object}
+use Rattle.serde_json.specs.View.{view, members_view}
+use Rattle.serde_json.proofs.Views.{Entry}
+use Rattle.utoipa_base.specs.declared.fault.ReadFault.{ReadFault}
+use Rattle.utoipa_base.specs.Docs.{Doc, map_doc, Entries, no_entries, entries_of_list}
+use Rattle.utoipa_base.specs.Kinds.{flows}
+use Rattle.utoipa_base.specs.Reading.{reader, parts, read, read_flows, both_entries}
+use Rattle.utoipa_base.specs.Values.{schema_count, docs_schema_count, entries_schema_count}
+use Rattle.utoipa_base.specs.Views.{text_of, option_of, pairs_of}
+use Rattle.utoipa_base.specs.Writing.{write}
+use Rattle.utoipa_base.proofs.Maps.{prepend_entries, prepend_entries-none, prepend_entries-some, prepend_entries-append}
+use Rattle.utoipa_security.specs.OAuth.{flow_object, flow_view, flow_key, flow_read, flows_doc, by_key, put_flows}
+use Rattle.utoipa_security.specs.declared.security.flows.Flow.{Flow}
+use Rattle.utoipa_security.specs.declared.security.flows.Flow.TheVariants.{Implicit, Password, ClientCredentials, AuthorizationCode, DeviceAuthorization}
+
+-- ---- reading
+
+-- flows are read from the members of an object
+pub read-flows : (d : Data) → read flows d ≡ option_and_then (λ ms. option_map map_doc (read_flows (parts ms))) (as_object d)
+unfolding reader
+read-flows null = refl
+read-flows (boolean b) = refl
+read-flows (number n) = refl
+read-flows (string s) = refl
+read-flows (array ds) = refl
+read-flows (object ms) = refl
+
+-- what members read as
+abbrev pub flows_read : List Entry → Option Entries
+flows_read es = read_flows (parts (members_view es))
+
+-- no members
+flows_read-nil : flows_read [] ≡ Some no_entries
+unfolding parts
+flows_read-nil = refl
+
+-- a member before others
+flows_read-cons : (e : Entry) (es : List Entry) → flows_read (e ∷ es) ≡ both_entries (string_bytes e.0) (flow_read (string_bytes e.0) (view e.1)) (flows_read es)
+unfolding parts
+flows_read-cons e es = refl
+
+-- one more member that is a flow
+pub flows_read-step : (e : Entry) (es : List Entry) (ds : List (List ℕ × Doc)) (d : Doc) (o : Option Entries) → o ≡ prepend_entries ds (flows_read (e ∷ es)) → flow_read (string_bytes e.0) (view e.1) ≡ Some d
+    → o ≡ prepend_entries (ds ++ (string_bytes e.0, d) ∷ []) (flows_read es)
+flows_read-step e es ds d o before is =
+    before ∙ ap (prepend_entries ds) (flows_read-cons e es ∙ ap (λ r. both_entries (string_bytes e.0) r (flows_read es)) is) ∙ sym (prepend_entries-append ds (string_bytes e.0, d) (flows_read es))
+
+-- a member that is no flow
+pub flows_read-stop : (e : Entry) (es : List Entry) (ds : List (List ℕ × Doc)) (o : Option Entries) → o ≡ prepend_entries ds (flows_read (e ∷ es)) → flow_read (string_bytes e.0) (view e.1) ≡ None → o ≡ None
+flows_read-stop e es ds o before is =
+    before ∙ ap (prepend_entries ds) (flows_read-cons e es ∙ ap (λ r. both_entries (string_bytes e.0) r (flows_read es)) is) ∙ prepend_entries-none ds
+
+-- after the last member
+pub flows_read-end : (ds : List (List ℕ × Doc)) (o : Option Entries) → o ≡ prepend_entries ds (flows_read []) → o ≡ Some (entries_of_list ds)
+flows_read-end ds o before = before ∙ ap (prepend_entries ds) flows_read-nil ∙ prepend_entries-some ds
+
+-- a tree that is an object, with its members read
+pub flows_by_entries : (d : Data) (es : List Entry) (o : Option Entries) → Some (members_view es) ≡ as_object d → flows_read es ≡ o → read flows d ≡ option_map map_doc o
+flows_by_entries d es o is read_as = read-flows d ∙ ap (option_and_then (λ ms. option_map map_doc (read_flows (parts ms)))) (sym is) ∙ ap (option_map map_doc) read_as
+
+-- ---- writing
+
+-- a flow is written as its members
+pub write-flow : (f : Flow) → write (flow_view f) ≡ write (flow_object f)
+unfolding write
+write-flow f = refl
+
+-- ---- counting
+
+-- texts hold no schema
+texts_uncounted : (es : List (String Global × String Global)) → entries_schema_count (entries_of_list (pairs_of text_of es)) ≡ 0
+unfolding entries_schema_count schema_count
+texts_uncounted [] = refl
+texts_uncounted (e ∷ es) = omega (arith, texts_uncounted es)
+
+-- a text that may be absent holds no schema
+option_uncounted : (o : Option (String Global)) → schema_count (option_of text_of o) ≡ 0
+unfolding schema_count
+option_uncounted None = refl
+option_uncounted (Some s) = refl
+
+-- no flow holds a schema
+flow_uncounted : (f : Flow) → schema_count (flow_view f) ≡ 0
+unfolding schema_count docs_schema_count
+flow_uncounted (Implicit f) = let url = option_uncounted f.refresh_url in let scopes = texts_uncounted f.scopes.scopes.entries in omega (arith, url, scopes)
+flow_uncounted (Password f) = let url = option_uncounted f.refresh_url in let scopes = texts_uncounted f.scopes.scopes.entries in omega (arith, url, scopes)
+flow_uncounted (ClientCredentials f) = let url = option_uncounted f.refresh_url in let scopes = texts_uncounted f.scopes.scopes.entries in omega (arith, url, scopes)
+flow_uncounted (AuthorizationCode f) = let url = option_uncounted f.refresh_url in let scopes = texts_uncounted f.scopes.scopes.entries in omega (arith, url, scopes)
+flow_uncounted (DeviceAuthorization f) = let url = option_uncounted f.refresh_url in let scopes = texts_uncounted f.scopes.scopes.entries in omega (arith, url, scopes)
+
+-- entries that are flows hold no schema
+entries_uncounted : (es : List (String Global × Flow)) → entries_schema_count (entries_of_list (pairs_of flow_view es)) ≡ 0
+unfolding entries_schema_count
+entries_uncounted [] = refl
+entries_uncounted (e ∷ es) = omega (arith, flow_uncounted e.1, entries_uncounted es)
+
+-- flows hold no schema
+pub flows_uncounted : (m : BTreeMap (String Global) Flow) → schema_count (flows_doc m) ≡ 0
+unfolding schema_count
+flows_uncounted m = entries_uncounted m.entries
+
+-- a counter that stays counts no less than the schemas of flows
+pub flows_least : (r : Result (BTreeMap (String Global) Flow) ReadFault) (n most : ℕ) → IfOk r (λ m. n < most → n + schema_count (flows_doc m) ≤ n)
+flows_least (Ok m) n most = λ below. omega (arith, flows_uncounted m)
+flows_least (Err e) n most = tt
+
+-- ---- flows that are put under their keys
+
+-- one more flow is put last
+pub put_flows-last : (fs : List Flow) (f : Flow) (es : List (List ℕ × Flow)) → put_flows (fs ++ f ∷ []) es ≡ insert_entry (slice_cmp nat_cmp) (put_flows fs es) (flow_key f) f
+put_flows-last [] f es = refl
+put_flows-last (x ∷ fs) f es = put_flows-last fs f (insert_entry (slice_cmp nat_cmp) es (flow_key x) x)
+
+-- what a choice of three lists has as its keys
+by_key-choice : (o : Ordering) (a b c : List (String Global × Flow)) → by_key (match_ordering o a b c) ≡ match_ordering o (by_key a) (by_key b) (by_key c)
+by_key-choice Less a b c = refl
+by_key-choice Equal a b c = refl
+by_key-choice Greater a b c = refl
+
+-- an entry that is put by its key is put by the text of its key
+pub by_key-insert_entry : (es : List (String Global × Flow)) (k : String Global) (f : Flow) → by_key (insert_entry string_cmp es k f) ≡ insert_entry (slice_cmp nat_cmp) (by_key es) (string_bytes k) f
+by_key-insert_entry [] k f = refl
+by_key-insert_entry (e ∷ es) k f =
+    by_key-choice (string_cmp k e.0) ((k, f) ∷ e ∷ es) ((e.0, f) ∷ es) (e ∷ insert_entry string_cmp es k f)
+    ∙ ap (λ r. match_ordering (string_cmp k e.0) ((string_bytes k, f) ∷ (string_bytes e.0, e.1) ∷ by_key es) ((string_bytes e.0, f) ∷ by_key es) ((string_bytes e.0, e.1) ∷ r)) (by_key-insert_entry es k f)
+
+-- flows, part by part
+pub ruleset by_flows = (read-flows)

@@ -1,0 +1,4 @@
+pub mod Choosing
+pub mod KeyedFlows
+pub mod Scopes
+pub mod Tags

@@ -1,0 +1,13 @@
+-- Written by tools/answers.py utoipa_security security/flow DeviceAuthorization
+use Rattle.utoipa_base.specs.Kinds.{device_authorization_flow}
+use Rattle.utoipa_base.proofs.ByRows.{table_written, rows-cons, rows-nil}
+use Rattle.utoipa_security.proofs.security.flow.DeviceAuthorizationTree.to_value.Goals as goal
+
+pub returns : goal.returns
+returns c =
+    table_written device_authorization_flow _ _ _ _ c.in_ok-members.ensures
+    (rows-cons _ _ _ _ _ _ _ c.in_ok-write_required.ensures
+    (rows-cons _ _ _ _ _ _ _ c.in_ok-write_required-2.ensures
+    (rows-cons _ _ _ _ _ _ _ c.in_ok-write_option.ensures
+    (rows-cons _ _ _ _ _ _ _ c.in_ok-write_required-3.ensures
+    (rows-nil _)))))

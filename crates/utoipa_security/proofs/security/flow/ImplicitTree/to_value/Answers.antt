@@ -1,0 +1,12 @@
+-- Written by tools/answers.py utoipa_security security/flow Implicit
+use Rattle.utoipa_base.specs.Kinds.{implicit_flow}
+use Rattle.utoipa_base.proofs.ByRows.{table_written, rows-cons, rows-nil}
+use Rattle.utoipa_security.proofs.security.flow.ImplicitTree.to_value.Goals as goal
+
+pub returns : goal.returns
+returns c =
+    table_written implicit_flow _ _ _ _ c.in_ok-members.ensures
+    (rows-cons _ _ _ _ _ _ _ c.in_ok-write_required.ensures
+    (rows-cons _ _ _ _ _ _ _ c.in_ok-write_option.ensures
+    (rows-cons _ _ _ _ _ _ _ c.in_ok-write_required-2.ensures
+    (rows-nil _))))

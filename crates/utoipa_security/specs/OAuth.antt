@@ -1,0 +1,141 @@
+-- The documents of OAuth flows under their keys, and of OAuth schemes.
+use Rattle.std.specs.Prelude.{◌≡◌, ℕ, List, [], ◌∷◌, Option, None, option_map, map, codes, refl, String, string_bytes}
+use Rattle.std.specs.BTreeMap.{BTreeMap, insert_entry}
+use Rattle.std.specs.Cmp.Lexicographic.{slice_cmp}
+use Rattle.std.specs.Iterator.{Drains}
+use Rattle.std.specs.Ordering.{nat_cmp}
+use Rattle.std.specs.declared.alloc.Global.{Global}
+use Rattle.serde_json.specs.Data.{Data}
+use Rattle.utoipa_base.specs.Choices.{chosen, flow_keys}
+use Rattle.utoipa_base.specs.Docs.{Doc, flow_doc, table_doc, no_docs, doc}
+use Rattle.utoipa_base.specs.Extensions.{extensions_view}
+use Rattle.utoipa_base.specs.Flags.{deprecated_doc}
+use Rattle.utoipa_base.specs.Kinds.{ObjectType, named, text, flag, flows, oauth2_scheme, implicit_flow, password_flow, client_credentials_flow, authorization_code_flow, device_authorization_flow}
+use Rattle.utoipa_base.specs.OfKind.{text_of_kind, option_of_kind, deprecated_of_kind, extends_of_kind, entries_of_kind}
+use Rattle.utoipa_base.specs.Reading.{reader, read, read_flow, or_else}
+use Rattle.utoipa_base.specs.Shape.{IsOf, RowsOf, value_of, flow_place}
+use Rattle.utoipa_base.specs.Views.{text_of, option_of, map_of_docs}
+use Rattle.utoipa_security.specs.Flows as tables
+use Rattle.utoipa_security.specs.declared.security.flows.Flow.{Flow}
+use Rattle.utoipa_security.specs.declared.security.flows.Flow.TheVariants as made
+use Rattle.utoipa_security.specs.declared.security.flows.FlowKind.{FlowKind}
+use Rattle.utoipa_security.specs.declared.security.flows.FlowKind.TheVariants as kinds
+use Rattle.utoipa_security.specs.declared.security.oauth2.OAuth2.{OAuth2}
+
+-- ---- a flow
+
+-- the members of a flow as a document
+abbrev pub flow_object : Flow → Doc
+flow_object (made.Implicit f) = tables.implicit_doc f
+flow_object (made.Password f) = tables.password_doc f
+flow_object (made.ClientCredentials f) = tables.client_credentials_doc f
+flow_object (made.AuthorizationCode f) = tables.authorization_code_doc f
+flow_object (made.DeviceAuthorization f) = tables.device_authorization_doc f
+
+-- a flow as a document
+abbrev pub flow_view : Flow → Doc
+flow_view f = flow_doc (flow_object f)
+
+-- the key under which a flow stands
+abbrev pub flow_key : Flow → List ℕ
+flow_key (made.Implicit f) = codes "implicit"
+flow_key (made.Password f) = codes "password"
+flow_key (made.ClientCredentials f) = codes "clientCredentials"
+flow_key (made.AuthorizationCode f) = codes "authorizationCode"
+flow_key (made.DeviceAuthorization f) = codes "deviceAuthorization"
+
+-- the key of a kind of flows
+abbrev pub flow_kind_key : FlowKind → List ℕ
+flow_kind_key kinds.Implicit = codes "implicit"
+flow_kind_key kinds.Password = codes "password"
+flow_kind_key kinds.ClientCredentials = codes "clientCredentials"
+flow_kind_key kinds.AuthorizationCode = codes "authorizationCode"
+flow_kind_key kinds.DeviceAuthorization = codes "deviceAuthorization"
+
+-- the object type of a kind of flows
+abbrev pub flow_type : FlowKind → ObjectType
+flow_type kinds.Implicit = implicit_flow
+flow_type kinds.Password = password_flow
+flow_type kinds.ClientCredentials = client_credentials_flow
+flow_type kinds.AuthorizationCode = authorization_code_flow
+flow_type kinds.DeviceAuthorization = device_authorization_flow
+
+-- each kind, in the order in which they are tried
+abbrev pub every_flow_kind : List FlowKind
+every_flow_kind = kinds.Implicit ∷ kinds.Password ∷ kinds.ClientCredentials ∷ kinds.AuthorizationCode ∷ kinds.DeviceAuthorization ∷ []
+
+-- the first kind of flows that a tree fits
+abbrev pub any_flow_read : Data → Option Doc
+any_flow_read d =
+    or_else (read (named implicit_flow) d)
+    (or_else (read (named password_flow) d)
+    (or_else (read (named client_credentials_flow) d)
+    (or_else (read (named authorization_code_flow) d) (read (named device_authorization_flow) d))))
+
+-- the flow that a tree under a key is
+abbrev pub flow_read : List ℕ → Data → Option Doc
+flow_read key d = read_flow (chosen key flow_keys) (reader d)
+
+-- a flow may stand among flows
+pub flow_of_place : (f : Flow) → IsOf (flow_view f) flow_place
+unfolding IsOf
+flow_of_place (made.Implicit f) = (implicit_flow, refl, refl, tables.implicit_of_kind f)
+flow_of_place (made.Password f) = (password_flow, refl, refl, tables.password_of_kind f)
+flow_of_place (made.ClientCredentials f) = (client_credentials_flow, refl, refl, tables.client_credentials_of_kind f)
+flow_of_place (made.AuthorizationCode f) = (authorization_code_flow, refl, refl, tables.authorization_code_of_kind f)
+flow_of_place (made.DeviceAuthorization f) = (device_authorization_flow, refl, refl, tables.device_authorization_of_kind f)
+
+-- ---- flows
+
+-- flows under their keys as a document
+abbrev pub flows_doc : BTreeMap (String Global) Flow → Doc
+flows_doc m = map_of_docs flow_view m
+
+-- flows are a map of flows
+pub flows_of_kind : (m : BTreeMap (String Global) Flow) → IsOf (flows_doc m) (value_of flows)
+unfolding IsOf
+flows_of_kind m = (flow_place, refl, entries_of_kind flow_view flow_place flow_of_place m.entries)
+
+-- flows by the texts of their keys
+abbrev pub by_key : List (String Global × Flow) → List (List ℕ × Flow)
+by_key es = map (λ e. (string_bytes e.0, e.1)) es
+
+-- the flows, with each of some put under its key in turn, so that the later of two of one kind stays
+abbrev pub put_flows : List Flow → List (List ℕ × Flow) → List (List ℕ × Flow)
+put_flows [] es = es
+put_flows (f ∷ fs) es = put_flows fs (insert_entry (slice_cmp nat_cmp) es (flow_key f) f)
+
+-- a map holds each flow that an iterator gives under its key, and the later of two of one kind
+abbrev pub IsKeyedFrom : {S : Type 0} → (S → Option Flow → S → Type 0) → S → BTreeMap (String Global) Flow → Type 0
+IsKeyedFrom gives items m = (given : List Flow) × Drains gives items given × (by_key m.entries ≡ put_flows given [])
+
+-- ---- a scheme by OAuth
+
+-- a scheme by OAuth with flows and a description, if any, and nothing else
+abbrev pub made_oauth2 : BTreeMap (String Global) Flow → Option (String Global) → OAuth2
+made_oauth2 held description = record { flows = held; oauth2_metadata_url = None; description = description; deprecated = None; extensions = None }
+
+-- a scheme by OAuth as a document
+abbrev pub oauth2_doc : OAuth2 → Doc
+oauth2_doc s =
+    table_doc oauth2_scheme
+    (doc (flows_doc s.flows)
+    (doc (option_of text_of s.oauth2_metadata_url)
+    (doc (option_of text_of s.description)
+    (doc (option_of deprecated_doc s.deprecated) no_docs))))
+    (option_map extensions_view s.extensions)
+
+-- a scheme by OAuth is an object of its type
+pub oauth2_of_kind : (s : OAuth2) → IsOf (oauth2_doc s) (value_of (named oauth2_scheme))
+unfolding IsOf RowsOf
+oauth2_of_kind s = (
+  refl,
+  (
+    flows_of_kind s.flows,
+    (
+      option_of_kind text_of text text_of_kind s.oauth2_metadata_url,
+      (option_of_kind text_of text text_of_kind s.description, (option_of_kind deprecated_doc flag deprecated_of_kind s.deprecated, tt)),
+    ),
+  ),
+  extends_of_kind (option_map extensions_view s.extensions),
+)

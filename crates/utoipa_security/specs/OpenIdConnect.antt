@@ -1,0 +1,33 @@
+-- The documents of schemes by OpenID Connect.
+use Rattle.std.specs.Prelude.{Option, None, option_map, refl, String}
+use Rattle.std.specs.declared.alloc.Global.{Global}
+use Rattle.utoipa_base.specs.Kinds.{named, open_id_connect_scheme, text, flag}
+use Rattle.utoipa_base.specs.Docs.{Doc, table_doc, no_docs, doc}
+use Rattle.utoipa_base.specs.Extensions.{extensions_view}
+use Rattle.utoipa_base.specs.Flags.{deprecated_doc}
+use Rattle.utoipa_base.specs.Views.{text_of, option_of}
+use Rattle.utoipa_base.specs.Shape.{IsOf, RowsOf, value_of}
+use Rattle.utoipa_base.specs.OfKind.{text_of_kind, option_of_kind, deprecated_of_kind, extends_of_kind}
+use Rattle.utoipa_security.specs.declared.security.open_id_connect.OpenIdConnect.{OpenIdConnect}
+
+-- a scheme by OpenID Connect with its URL and a description, if any, and nothing else
+abbrev pub made_open_id_connect : String Global → Option (String Global) → OpenIdConnect
+made_open_id_connect url description = record { open_id_connect_url = url; description = description; deprecated = None; extensions = None }
+
+-- a scheme by OpenID Connect as a document
+abbrev pub open_id_connect_doc : OpenIdConnect → Doc
+open_id_connect_doc s =
+    table_doc open_id_connect_scheme
+    (doc (text_of s.open_id_connect_url)
+    (doc (option_of text_of s.description)
+    (doc (option_of deprecated_doc s.deprecated) no_docs)))
+    (option_map extensions_view s.extensions)
+
+-- a scheme by OpenID Connect is an object of its type
+pub open_id_connect_of_kind : (s : OpenIdConnect) → IsOf (open_id_connect_doc s) (value_of (named open_id_connect_scheme))
+unfolding IsOf RowsOf
+open_id_connect_of_kind s = (
+  refl,
+  (text_of_kind s.open_id_connect_url, (option_of_kind text_of text text_of_kind s.description, (option_of_kind deprecated_doc flag deprecated_of_kind s.deprecated, tt))),
+  extends_of_kind (option_map extensions_view s.extensions),
+)

@@ -1,0 +1,6 @@
+//! The security of a document: requirements, and the schemes that they name.
+#![tactic(auto)]
+
+pub mod security;
+#[cfg(test)]
+mod tests;

@@ -1,0 +1,294 @@
+//! Schemes of HTTP authentication.
+ghost use Rattle.std.specs.Prelude.{◌≡◌, None, Some, refl, false};
+ghost use Rattle.utoipa_base.specs.Kinds.{named, http_scheme, word_of, http_auth_scheme};
+
+use serde_json::Value;
+use std::alloc::{AllocError, Global};
+use utoipa_base::{
+    Deprecated, Extensions, ReadFault, Readings, Tree, Word, clone_extensions, clone_option,
+    read_extensions, read_word, row_option, row_required, write_option, write_required, write_word,
+    written_extensions,
+};
+
+/// The name of an HTTP authentication scheme: the member `scheme` of a Security Scheme Object of the type `http`
+/// (OpenAPI 3.1, section 4.8.27).
+#[derive(Clone, Copy, Debug, Default, Drop, PartialEq, Eq)]
+pub enum HttpAuthScheme {
+    /// `basic`: A name and a password.
+    #[default]
+    Basic,
+    /// `bearer`: A token.
+    Bearer,
+    /// `digest`: A digest of a shared secret.
+    Digest,
+    /// `hoba`: A signature bound to the origin.
+    Hoba,
+    /// `mutual`: Both sides prove that they know a password.
+    Mutual,
+    /// `negotiate`: A security mechanism that both sides agree on.
+    Negotiate,
+    /// `oauth`: A signed request of OAuth 1.0.
+    OAuth,
+    /// `scram-sha-1`: A salted challenge by SHA-1.
+    ScramSha1,
+    /// `scram-sha-256`: A salted challenge by SHA-256.
+    ScramSha256,
+    /// `vapid`: The identification of an application server.
+    Vapid,
+}
+
+impl Word for HttpAuthScheme {
+    ghost use Rattle.utoipa_security.specs.Http.{auth_scheme_text, every_auth_scheme, auth_scheme_by_text};
+
+    ghost vocabulary = { http_auth_scheme };
+
+    ghost every = { every_auth_scheme };
+
+    ghost spelling = { auth_scheme_text };
+
+    ghost are_words = { refl };
+
+    ghost found_by_text = { auth_scheme_by_text };
+
+    fn lookup(text: &str) -> Option<HttpAuthScheme> {
+        match text {
+            "basic" => Some(HttpAuthScheme::Basic),
+            "bearer" => Some(HttpAuthScheme::Bearer),
+            "digest" => Some(HttpAuthScheme::Digest),
+            "hoba" => Some(HttpAuthScheme::Hoba),
+            "mutual" => Some(HttpAuthScheme::Mutual),
+            "negotiate" => Some(HttpAuthScheme::Negotiate),
+            "oauth" => Some(HttpAuthScheme::OAuth),
+            "scram-sha-1" => Some(HttpAuthScheme::ScramSha1),
+            "scram-sha-256" => Some(HttpAuthScheme::ScramSha256),
+            "vapid" => Some(HttpAuthScheme::Vapid),
+            _ => None,
+        }
+    }
+
+    fn as_text(&self) -> &'static str {
+        match self {
+            HttpAuthScheme::Basic => "basic",
+            HttpAuthScheme::Bearer => "bearer",
+            HttpAuthScheme::Digest => "digest",
+            HttpAuthScheme::Hoba => "hoba",
+            HttpAuthScheme::Mutual => "mutual",
+            HttpAuthScheme::Negotiate => "negotiate",
+            HttpAuthScheme::OAuth => "oauth",
+            HttpAuthScheme::ScramSha1 => "scram-sha-1",
+            HttpAuthScheme::ScramSha256 => "scram-sha-256",
+            HttpAuthScheme::Vapid => "vapid",
+        }
+    }
+}
+
+#[tactic(auto, using(utoipa_base::proofs::ByWords::by_words))]
+impl Tree for HttpAuthScheme {
+    ghost use Rattle.utoipa_security.specs.Http.{auth_scheme_doc, auth_scheme_of_kind};
+
+    ghost kind = { word_of http_auth_scheme };
+
+    ghost doc = { auth_scheme_doc };
+
+    const IS_SCHEMA: bool = false;
+
+    ghost IS_SCHEMA = { false };
+
+    ghost is_of_kind = { auth_scheme_of_kind };
+
+    ghost counts_as_schema = { refl };
+
+    fn read_plain(
+        _alloc: Global,
+        tree: &Value,
+        _readings: &mut Readings,
+    ) -> Result<HttpAuthScheme, ReadFault> {
+        read_word(tree, "HttpAuthScheme")
+    }
+
+    fn to_value(&self, alloc: Global) -> Result<Value, AllocError> {
+        write_word(alloc, self)
+    }
+
+    fn try_clone(&self, _alloc: Global) -> Result<HttpAuthScheme, AllocError> {
+        Ok(*self)
+    }
+}
+
+/// A Security Scheme Object of the type `http` (OpenAPI 3.1, section 4.8.27), without its member `type`.
+#[derive(Debug, Drop)]
+pub struct Http {
+    /// The name of the authentication scheme.
+    pub scheme: HttpAuthScheme,
+    /// A hint on how a bearer token is formed.
+    pub bearer_format: Option<String>,
+    /// A description of the scheme.
+    pub description: Option<String>,
+    /// Whether the scheme is deprecated, from OpenAPI 3.2 on.
+    pub deprecated: Option<Deprecated>,
+    /// Specification extensions.
+    pub extensions: Option<Extensions>,
+}
+
+impl Http {
+    ghost use Rattle.utoipa_security.specs.Http.{made_http, built_http};
+
+    /// A scheme of a name, with nothing else.
+    pub fn new(scheme: HttpAuthScheme) -> Http
+        ensures { result ≡ made_http scheme }
+    {
+        Http {
+            scheme,
+            bearer_format: None,
+            description: None,
+            deprecated: None,
+            extensions: None,
+        }
+    }
+
+    /// A builder that begins with the scheme `basic`.
+    pub fn builder() -> HttpBuilder
+        ensures { built_http result ≡ made_http HttpAuthScheme.Basic }
+    {
+        HttpBuilder::new()
+    }
+}
+
+#[tactic(auto, using(utoipa_base::proofs::ByRows::by_table))]
+impl Tree for Http {
+    ghost use Rattle.utoipa_security.specs.Http.{http_doc, http_of_kind};
+
+    ghost kind = { named http_scheme };
+
+    ghost doc = { http_doc };
+
+    const IS_SCHEMA: bool = false;
+
+    ghost IS_SCHEMA = { false };
+
+    ghost is_of_kind = { http_of_kind };
+
+    ghost counts_as_schema = { refl };
+
+    fn read_plain(alloc: Global, tree: &Value, readings: &mut Readings) -> Result<Http, ReadFault> {
+        if !tree.is_object() {
+            return Err(ReadFault::Kind("Http"));
+        }
+        let scheme = row_required(alloc, tree, "scheme", readings)?;
+        let bearer_format = row_option(alloc, tree, "bearerFormat", readings)?;
+        let description = row_option(alloc, tree, "description", readings)?;
+        let deprecated = row_option(alloc, tree, "deprecated", readings)?;
+        let extensions = read_extensions(alloc, tree)?;
+        Ok(Http {
+            scheme,
+            bearer_format,
+            description,
+            deprecated,
+            extensions,
+        })
+    }
+
+    fn to_value(&self, alloc: Global) -> Result<Value, AllocError> {
+        let mut members = written_extensions(alloc, &self.extensions)?;
+        write_required(&mut members, alloc, "scheme", &self.scheme)?;
+        write_option(&mut members, alloc, "bearerFormat", &self.bearer_format)?;
+        write_option(&mut members, alloc, "description", &self.description)?;
+        write_option(&mut members, alloc, "deprecated", &self.deprecated)?;
+        Ok(Value::Object(members))
+    }
+
+    fn try_clone(&self, alloc: Global) -> Result<Http, AllocError> {
+        Ok(Http {
+            scheme: self.scheme.try_clone(alloc)?,
+            bearer_format: clone_option(alloc, &self.bearer_format)?,
+            description: clone_option(alloc, &self.description)?,
+            deprecated: clone_option(alloc, &self.deprecated)?,
+            extensions: clone_extensions(alloc, &self.extensions)?,
+        })
+    }
+}
+
+/// Builds an [`Http`].
+#[derive(Debug, Drop)]
+pub struct HttpBuilder {
+    http: Http,
+}
+
+impl HttpBuilder {
+    ghost use Rattle.utoipa_security.specs.Http.{made_http, built_http, format_for};
+
+    /// Begins with the scheme `basic`, with nothing else.
+    pub fn new() -> HttpBuilder
+        ensures { built_http result ≡ made_http HttpAuthScheme.Basic }
+    {
+        HttpBuilder {
+            http: Http::new(HttpAuthScheme::Basic),
+        }
+    }
+
+    /// Sets the name of the authentication scheme.
+    pub fn scheme(mut self, scheme: HttpAuthScheme) -> HttpBuilder
+        ensures { built_http result ≡ record (built_http self) { scheme = scheme } }
+    {
+        self.http.scheme = scheme;
+        self
+    }
+
+    /// Sets the hint on how a bearer token is formed, if the scheme is `bearer` by now. Else nothing changes.
+    pub fn bearer_format(mut self, bearer_format: String) -> HttpBuilder
+        ensures { built_http result ≡ record (built_http self) {
+          bearer_format = format_for (built_http self).scheme (built_http self).bearer_format bearer_format;
+        } }
+    {
+        match self.http.scheme {
+            HttpAuthScheme::Bearer => {
+                self.http.bearer_format = Some(bearer_format);
+                self
+            }
+            _ => self,
+        }
+    }
+
+    /// Sets the description.
+    pub fn description(mut self, description: Option<String>) -> HttpBuilder
+        ensures { built_http result ≡ record (built_http self) { description = description } }
+    {
+        self.http.description = description;
+        self
+    }
+
+    /// Sets whether the scheme is deprecated.
+    pub fn deprecated(mut self, deprecated: Option<Deprecated>) -> HttpBuilder
+        ensures { built_http result ≡ record (built_http self) { deprecated = deprecated } }
+    {
+        self.http.deprecated = deprecated;
+        self
+    }
+
+    /// The scheme that was built.
+    pub fn build(self) -> Http
+        ensures { result ≡ built_http self }
+    {
+        self.http
+    }
+}
+
+impl From<Http> for HttpBuilder {
+    ghost use Rattle.utoipa_security.specs.Http.{built_http};
+
+    ghost from_gives = { λ http builder. built_http builder ≡ http };
+
+    fn from(http: Http) -> HttpBuilder {
+        HttpBuilder { http }
+    }
+}
+
+impl From<HttpBuilder> for Http {
+    ghost use Rattle.utoipa_security.specs.Http.{built_http};
+
+    ghost from_gives = { λ builder http. http ≡ built_http builder };
+
+    fn from(builder: HttpBuilder) -> Http {
+        builder.build()
+    }
+}

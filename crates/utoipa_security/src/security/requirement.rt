@@ -1,0 +1,114 @@
+//! What has to be met for a request.
+ghost use Rattle.std.specs.Prelude.{◌≡◌, [], ◌∷◌, refl, false, IfOk, string_cmp};
+ghost use Rattle.std.specs.BTreeMap.{insert_entry};
+ghost use Rattle.std.specs.Iterator.{IsFinite};
+ghost use Rattle.utoipa_base.specs.Lists.{IsFilledFrom};
+ghost use Rattle.utoipa_base.specs.Tables.{security_requirement};
+
+use serde_json::Value;
+use std::alloc::{AllocError, Global};
+use std::collections::BTreeMap;
+use utoipa_base::{ReadFault, Readings, Same, Tree, list_from};
+
+/// A Security Requirement Object (OpenAPI 3.1, section 4.8.30): names of security schemes, each with the scopes or roles
+/// that it takes. All of the schemes have to be met; where there is none, security is optional.
+#[derive(Debug, Drop)]
+pub struct SecurityRequirement {
+    pub(crate) value: BTreeMap<String, Vec<String>>,
+}
+
+impl SecurityRequirement {
+    ghost use Rattle.utoipa_security.specs.Requirement.{requirement_entries, ScopeNames};
+
+    /// The requirement of one scheme, with all that the iterator gives as its scopes. The iterator has to end. Fails
+    /// where memory runs out.
+    pub fn new<I: Iterator<Item = String> + Drop>(
+        alloc: Global,
+        name: String,
+        scopes: I,
+    ) -> Result<SecurityRequirement, AllocError>
+        requires can { I.can_next scopes }
+        requires ends { IsFinite (I.remaining scopes) }
+        ensures { IfOk result (λ r. (listed : ScopeNames) × IsFilledFrom I.next_gives scopes listed
+            × (requirement_entries r ≡ (name, listed) ∷ [])) }
+    {
+        let listed = list_from(alloc, scopes)?;
+        let mut value = BTreeMap::new(alloc);
+        drop(value.insert(name, listed)?);
+        Ok(SecurityRequirement { value })
+    }
+
+    /// The requirement of no scheme. Takes no memory.
+    pub fn empty(alloc: Global) -> SecurityRequirement
+        ensures { requirement_entries result ≡ [] }
+    {
+        SecurityRequirement {
+            value: BTreeMap::new(alloc),
+        }
+    }
+
+    /// Requires a scheme, with all that the iterator gives as its scopes, in place of those that it had. The iterator has
+    /// to end. Fails where memory runs out, and then gives up the requirement.
+    pub fn add<I: Iterator<Item = String> + Drop>(
+        mut self,
+        alloc: Global,
+        name: String,
+        scopes: I,
+    ) -> Result<SecurityRequirement, AllocError>
+        requires can { I.can_next scopes }
+        requires ends { IsFinite (I.remaining scopes) }
+        ensures { IfOk result (λ r. (listed : ScopeNames) × IsFilledFrom I.next_gives scopes listed
+            × (requirement_entries r ≡ insert_entry string_cmp (requirement_entries self) name listed)) }
+    {
+        let listed = list_from(alloc, scopes)?;
+        drop(self.value.insert(name, listed)?);
+        Ok(self)
+    }
+}
+
+/// An object as a map from the names of schemes.
+impl Tree for SecurityRequirement {
+    ghost use Rattle.utoipa_security.specs.Requirement.{requirement_doc, requirement_of_kind};
+
+    ghost kind = { security_requirement };
+
+    ghost doc = { requirement_doc };
+
+    const IS_SCHEMA: bool = false;
+
+    ghost IS_SCHEMA = { false };
+
+    ghost is_of_kind = { requirement_of_kind };
+
+    ghost counts_as_schema = { refl };
+
+    fn read_plain(
+        alloc: Global,
+        tree: &Value,
+        readings: &mut Readings,
+    ) -> Result<SecurityRequirement, ReadFault> {
+        let value = <BTreeMap<String, Vec<String>> as Tree>::read_plain(alloc, tree, readings)?;
+        Ok(SecurityRequirement { value })
+    }
+
+    fn to_value(&self, alloc: Global) -> Result<Value, AllocError> {
+        self.value.to_value(alloc)
+    }
+
+    fn try_clone(&self, alloc: Global) -> Result<SecurityRequirement, AllocError> {
+        Ok(SecurityRequirement {
+            value: self.value.try_clone(alloc)?,
+        })
+    }
+}
+
+/// Requirements are compared by the names of their schemes and the scopes of each, in order.
+impl Same for SecurityRequirement {
+    fn has_fraction(&self) -> bool {
+        self.value.has_fraction()
+    }
+
+    fn same(&self, other: &SecurityRequirement) -> bool {
+        self.value.same(&other.value)
+    }
+}

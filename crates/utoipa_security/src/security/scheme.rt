@@ -1,0 +1,207 @@
+//! Security schemes of every type.
+ghost use Rattle.std.specs.Prelude.{◌≡◌, ◌≤◌, ◌<◌, ◌+◌, None, Some, codes, option_map, refl, false, IfOk, IfErr};
+ghost use Rattle.serde_json.specs.View.{view};
+ghost use Rattle.utoipa_base.specs.Faults.{Refuses};
+ghost use Rattle.utoipa_base.specs.Kinds.{named, security_scheme, mutual_tls_scheme};
+ghost use Rattle.utoipa_base.specs.Reading.{read};
+ghost use Rattle.utoipa_base.specs.Values.{values, schema_count};
+ghost use Rattle.utoipa_base.specs.Vocabularies.{with_text};
+ghost use Rattle.utoipa_base.specs.Writing.{write};
+ghost use Rattle.utoipa_security.specs.Schemes.{mutual_tls_doc, scheme_word, scheme_object, scheme_doc, scheme_of_kind, scheme_type_text, scheme_kind, every_scheme_type};
+
+use crate::security::api_key::ApiKey;
+use crate::security::http::Http;
+use crate::security::oauth2::OAuth2;
+use crate::security::open_id_connect::OpenIdConnect;
+use crate::security::tag::{read_tag, tagged};
+use serde_json::Value;
+use std::alloc::{AllocError, Global};
+use utoipa_base::{
+    Deprecated, Extensions, ReadFault, Readings, Tree, clone_extensions, clone_option,
+    read_extensions, row_option, write_option, written_extensions,
+};
+
+/// A Security Scheme Object (OpenAPI 3.1, section 4.8.27), by its member `type`.
+#[derive(Debug, Drop)]
+pub enum SecurityScheme {
+    /// `oauth2`: The flows of OAuth 2.
+    OAuth2(OAuth2),
+    /// `apiKey`: A key in a header, the query or a cookie.
+    ApiKey(ApiKey),
+    /// `http`: HTTP authentication.
+    Http(Http),
+    /// `openIdConnect`: OpenID Connect Discovery.
+    OpenIdConnect(OpenIdConnect),
+    /// `mutualTLS`: A certificate of the client.
+    MutualTls {
+        /// A description of the scheme.
+        description: Option<String>,
+        /// Whether the scheme is deprecated, from OpenAPI 3.2 on.
+        deprecated: Option<Deprecated>,
+        /// Specification extensions.
+        extensions: Option<Extensions>,
+    },
+}
+
+#[derive(Clone, Copy)]
+pub(crate) enum SchemeType {
+    OAuth2,
+    ApiKey,
+    Http,
+    OpenIdConnect,
+    MutualTls,
+}
+
+fn scheme_type(word: &str) -> Option<SchemeType>
+    ensures { result ≡ with_text scheme_type_text every_scheme_type word.now }
+{
+    match word {
+        "oauth2" => Some(SchemeType::OAuth2),
+        "apiKey" => Some(SchemeType::ApiKey),
+        "http" => Some(SchemeType::Http),
+        "openIdConnect" => Some(SchemeType::OpenIdConnect),
+        "mutualTLS" => Some(SchemeType::MutualTls),
+        _ => None,
+    }
+}
+
+#[tactic(auto, using(utoipa_base::proofs::ByRows::by_table))]
+fn read_mutual_tls(
+    alloc: Global,
+    tree: &Value,
+    readings: &mut Readings,
+) -> Result<SecurityScheme, ReadFault>
+    ensures ok { IfOk result (λ s. (scheme_word s ≡ codes "mutualTLS")
+        × (read (named mutual_tls_scheme) (view tree.now) ≡ Some (scheme_object s))) }
+    ensures err { IfErr result (Refuses (read (named mutual_tls_scheme) (view tree.now))) }
+    ensures grows { readings.old ≤ readings.new }
+    ensures at_most { readings.new ≤ readings.old + values (view tree.now) }
+    ensures at_least { IfOk result (λ s. readings.new < u64.MAX
+        → readings.old + schema_count (scheme_object s) ≤ readings.new) }
+{
+    if !tree.is_object() {
+        return Err(ReadFault::Kind("SecurityScheme"));
+    }
+    let description = row_option(alloc, tree, "description", readings)?;
+    let deprecated = row_option(alloc, tree, "deprecated", readings)?;
+    let extensions = read_extensions(alloc, tree)?;
+    Ok(SecurityScheme::MutualTls {
+        description,
+        deprecated,
+        extensions,
+    })
+}
+
+fn mutual_tls_value(
+    alloc: Global,
+    description: &Option<String>,
+    deprecated: &Option<Deprecated>,
+    extensions: &Option<Extensions>,
+) -> Result<Value, AllocError>
+    ensures { IfOk result (λ v. view v ≡ write (mutual_tls_doc description.now deprecated.now extensions.now)) }
+{
+    let mut members = written_extensions(alloc, extensions)?;
+    write_option(&mut members, alloc, "description", description)?;
+    write_option(&mut members, alloc, "deprecated", deprecated)?;
+    Ok(Value::Object(members))
+}
+
+// The members of a scheme of one type.
+fn read_scheme(
+    kind: SchemeType,
+    alloc: Global,
+    tree: &Value,
+    readings: &mut Readings,
+) -> Result<SecurityScheme, ReadFault>
+    ensures ok { IfOk result (λ s. (scheme_word s ≡ scheme_type_text kind)
+        × (read (scheme_kind kind) (view tree.now) ≡ Some (scheme_object s))) }
+    ensures err { IfErr result (Refuses (read (scheme_kind kind) (view tree.now))) }
+    ensures grows { readings.old ≤ readings.new }
+    ensures at_most { readings.new ≤ readings.old + values (view tree.now) }
+    ensures at_least { IfOk result (λ s. readings.new < u64.MAX
+        → readings.old + schema_count (scheme_object s) ≤ readings.new) }
+{
+    match kind {
+        SchemeType::OAuth2 => Ok(SecurityScheme::OAuth2(OAuth2::read_plain(
+            alloc, tree, readings,
+        )?)),
+        SchemeType::ApiKey => Ok(SecurityScheme::ApiKey(ApiKey::read_plain(
+            alloc, tree, readings,
+        )?)),
+        SchemeType::Http => Ok(SecurityScheme::Http(Http::read_plain(alloc, tree, readings)?)),
+        SchemeType::OpenIdConnect => Ok(SecurityScheme::OpenIdConnect(OpenIdConnect::read_plain(
+            alloc, tree, readings,
+        )?)),
+        SchemeType::MutualTls => read_mutual_tls(alloc, tree, readings),
+    }
+}
+
+#[tactic(auto, using(crate::proofs::Tags::by_tags))]
+impl Tree for SecurityScheme {
+    ghost kind = { security_scheme };
+
+    ghost doc = { scheme_doc };
+
+    const IS_SCHEMA: bool = false;
+
+    ghost IS_SCHEMA = { false };
+
+    ghost is_of_kind = { scheme_of_kind };
+
+    ghost counts_as_schema = { refl };
+
+    fn read_plain(
+        alloc: Global,
+        tree: &Value,
+        readings: &mut Readings,
+    ) -> Result<SecurityScheme, ReadFault> {
+        let word = read_tag(tree, "type", "SecurityScheme")?;
+        match scheme_type(word) {
+            Some(kind) => read_scheme(kind, alloc, tree, readings),
+            None => Err(ReadFault::Word("SecurityScheme")),
+        }
+    }
+
+    fn to_value(&self, alloc: Global) -> Result<Value, AllocError> {
+        match self {
+            SecurityScheme::OAuth2(scheme) => {
+                tagged(alloc, "type", "oauth2", scheme.to_value(alloc)?)
+            }
+            SecurityScheme::ApiKey(scheme) => {
+                tagged(alloc, "type", "apiKey", scheme.to_value(alloc)?)
+            }
+            SecurityScheme::Http(scheme) => tagged(alloc, "type", "http", scheme.to_value(alloc)?),
+            SecurityScheme::OpenIdConnect(scheme) => {
+                tagged(alloc, "type", "openIdConnect", scheme.to_value(alloc)?)
+            }
+            SecurityScheme::MutualTls {
+                description,
+                deprecated,
+                extensions,
+            } => {
+                let written = mutual_tls_value(alloc, description, deprecated, extensions)?;
+                tagged(alloc, "type", "mutualTLS", written)
+            }
+        }
+    }
+
+    fn try_clone(&self, alloc: Global) -> Result<SecurityScheme, AllocError> {
+        match self {
+            SecurityScheme::OAuth2(scheme) => Ok(SecurityScheme::OAuth2(scheme.try_clone(alloc)?)),
+            SecurityScheme::ApiKey(scheme) => Ok(SecurityScheme::ApiKey(scheme.try_clone(alloc)?)),
+            SecurityScheme::Http(scheme) => Ok(SecurityScheme::Http(scheme.try_clone(alloc)?)),
+            SecurityScheme::OpenIdConnect(scheme) => {
+                Ok(SecurityScheme::OpenIdConnect(scheme.try_clone(alloc)?))
+            }
+            SecurityScheme::MutualTls {
+                description,
+                deprecated,
+                extensions,
+            } => Ok(SecurityScheme::MutualTls {
+                description: clone_option(alloc, description)?,
+                deprecated: clone_option(alloc, deprecated)?,
+                extensions: clone_extensions(alloc, extensions)?,
+            }),
+        }
+    }
+}

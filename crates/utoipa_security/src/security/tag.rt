@@ -1,0 +1,53 @@
+//! The member whose word says of which kind a scheme is.
+ghost use Rattle.std.specs.Prelude.{◌≡◌, None, Some, option_and_then, IfOk, IfErr};
+ghost use Rattle.serde_json.specs.Data.{string};
+ghost use Rattle.serde_json.specs.Find.{get, as_str};
+ghost use Rattle.serde_json.specs.View.{view};
+ghost use Rattle.utoipa_base.specs.Faults.{Refuses};
+ghost use Rattle.utoipa_base.specs.Writing.{with_member};
+
+use serde_json::{Value, put};
+use std::alloc::{AllocError, Global};
+use utoipa_base::ReadFault;
+
+/// The text of a member.
+///
+/// Answers `Kind` with the name of the type where the tree is no object or the member is no text, and `Missing` where
+/// there is no such member.
+#[tactic(auto, using(crate::proofs::Tags::by_tags))]
+pub(crate) fn read_tag<'a>(
+    tree: &'a Value,
+    name: &'static str,
+    wanted: &'static str,
+) -> Result<&'a str, ReadFault>
+    ensures ok { IfOk result (λ s. option_and_then as_str (get name.now (view tree.now)) ≡ Some s.now) }
+    ensures none { IfErr result (λ e. option_and_then as_str (get name.now (view tree.now)) ≡ None) }
+    ensures err { IfErr result (Refuses None) }
+{
+    if !tree.is_object() {
+        return Err(ReadFault::Kind(wanted));
+    }
+    match tree.get(name) {
+        Some(member) => member.as_str().ok_or(ReadFault::Kind(wanted)),
+        None => Err(ReadFault::Missing(name)),
+    }
+}
+
+/// The written tree of a kind, with the member that says which kind it is.
+#[tactic(auto, using(crate::proofs::Tags::by_tags))]
+pub(crate) fn tagged(
+    alloc: Global,
+    name: &'static str,
+    word: &'static str,
+    written: Value,
+) -> Result<Value, AllocError>
+    ensures { IfOk result (λ v. view v ≡ with_member name.now (string word.now) (view written)) }
+{
+    match written {
+        Value::Object(mut members) => {
+            put(&mut members, alloc, name, Value::try_from_str(alloc, word)?)?;
+            Ok(Value::Object(members))
+        }
+        other => Ok(other),
+    }
+}
