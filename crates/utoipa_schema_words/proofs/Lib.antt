@@ -1,0 +1,4 @@
+pub mod Counts
+mod Mappings
+pub mod ReadFormats
+pub mod ReadTypes

@@ -1,0 +1,3 @@
+pub mod Discriminator
+pub mod Format
+pub mod Types

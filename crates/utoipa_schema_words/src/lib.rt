@@ -1,0 +1,12 @@
+//! The parts of schemas that hold no schema: their types, their formats, and the discriminators between them.
+#![tactic(auto)]
+
+pub mod discriminator;
+pub mod format;
+#[cfg(test)]
+mod tests;
+pub mod types;
+
+pub use discriminator::Discriminator;
+pub use format::{KnownFormat, SchemaFormat};
+pub use types::{SchemaType, TypeWord};
