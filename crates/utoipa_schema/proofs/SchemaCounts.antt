@@ -1,0 +1,102 @@
+-- The counter of readings over schemas, and what a content schema that does not fit refuses.
+use Rattle.std.proofs.Common.{Option, Box, Global, Vec, String, BTreeMap, ◌∙◌, ap, ◌≡◌, ◌+◌, ◌<◌, ◌≤◌, ℕ, None, Result, Ok, Err, IfOk, arith, if◌then◌else◌, nat_lt}
+use Rattle.serde_json.specs.Data.{Data}
+use Rattle.utoipa_base.specs.Docs.{Doc}
+use Rattle.utoipa_base.specs.Docs as docs
+use Rattle.utoipa_base.specs.Fields.{field}
+use Rattle.utoipa_base.specs.Kinds.{named, schema, array_schema, object_schema}
+use Rattle.utoipa_base.specs.Reading.{read}
+use Rattle.utoipa_base.specs.Values.{schema_count}
+use Rattle.utoipa_base.proofs.ByRows.{table_refused, fields-first}
+use Rattle.utoipa_base.proofs.Places.{ticked_least, schema_count-none}
+use Rattle.utoipa_schema.proofs.Joins.{join-later}
+use Rattle.utoipa_schema.specs.Choice.{content_schema_row, ContentSchema, content_schema_doc}
+use Rattle.utoipa_schema.specs.Docs.{schema_doc, array_items_doc, array_doc, object_doc, boxed, additional_properties_doc}
+use Rattle.utoipa_base.specs.Refs.{ref_or_doc}
+use Rattle.utoipa_base.specs.Views.{option_of, list_of_docs, map_of_docs}
+use Rattle.utoipa_base.specs.declared.refs.RefOr.{RefOr}
+use Rattle.utoipa_schema.specs.declared.types.AdditionalProperties.{AdditionalProperties}
+use Rattle.utoipa_schema.specs.declared.types.ArrayItems.{ArrayItems}
+use Rattle.utoipa_schema.specs.declared.types.Schema.{Schema}
+use Rattle.utoipa_schema.specs.Folds.{schema-Array, schema-Object}
+use Rattle.utoipa_schema.proofs.RestCounts.{array_counts, object_counts}
+use Rattle.utoipa_schema.specs.declared.types.Array.{Array}
+use Rattle.utoipa_schema.specs.declared.types.Object.{Object}
+use Rattle.utoipa_schema.specs.declared.types.Schema as schemas
+use Rattle.utoipa_schema.specs.Plain.{array_head_rows, array_schema_rows, array_annotation_rows, array_limit_rows, content_schema_rows, object_head_rows, object_schema_rows, object_annotation_rows, number_limit_rows, size_limit_rows}
+
+-- a schema is one schema more than its table has
+pub counts_one : (d : Doc) → schema_count (docs.schema_doc d) ≡ 1 + schema_count d
+unfolding schema_count
+counts_one d = omega arith
+
+-- what was read after a tick
+pub after_tick : {E : Type 0} (r : Result Schema E) (old mid new : ℕ) → IfOk r (λ s. new < 18446744073709551615 → mid + schema_count (schema_doc s) ≤ new + 1)
+    → mid ≡ (if nat_lt old 18446744073709551615 then old + 1 else old) → mid ≤ new → IfOk r (λ s. new < 18446744073709551615 → old + schema_count (schema_doc s) ≤ new)
+after_tick (Ok s) old mid new counted tick grows = λ below. omega (arith, below, counted below, ticked_least old mid 18446744073709551615 tick (omega (arith, below, grows)))
+after_tick (Err e) old mid new counted tick grows = tt
+
+-- a tree whose content schema does not fit is no array
+pub no_array : (d : Data) → field content_schema_row d ≡ None → read (named array_schema) d ≡ None
+no_array d e = table_refused array_schema d (join-later array_head_rows _ d (join-later array_schema_rows _ d (join-later array_annotation_rows _ d (join-later array_limit_rows content_schema_rows d (fields-first _ _ d e)))))
+
+-- nor an object
+pub no_object_table : (d : Data) → field content_schema_row d ≡ None → read (named object_schema) d ≡ None
+no_object_table d e = table_refused object_schema d (join-later object_head_rows _ d (join-later object_schema_rows _ d (join-later object_annotation_rows _ d (join-later number_limit_rows _ d (join-later size_limit_rows content_schema_rows d (fields-first _ _ d e))))))
+
+-- ---- results
+
+pub if_ok : {T E : Type 0} (P Q : T → Type 0) (r : Result T E) → IfOk r P → ((v : T) → P v → Q v) → IfOk r Q
+if_ok P Q (Ok v) h f = f v h
+if_ok P Q (Err e) h f = tt
+
+-- a result whose schemas are those that were counted
+pub counted_as : {T E : Type 0} (f : T → Doc) (r : Result T E) (old new n : ℕ) → IfOk r (λ v. schema_count (f v) ≡ n) → (new < 18446744073709551615 → old + n ≤ new) → IfOk r (λ v. new < 18446744073709551615 → old + schema_count (f v) ≤ new)
+counted_as f (Ok v) old new n same counted = λ below. omega (arith, same, counted below)
+counted_as f (Err e) old new n same counted = tt
+
+-- ---- an array and an object, with a content schema that was read before
+
+pub array_content_counts : (a : Array) (content : ContentSchema) → a.content_schema ≡ None → schema_count (array_doc (record a { content_schema = content })) ≡ schema_count (array_doc a) + schema_count (content_schema_doc content)
+array_content_counts a content none =
+    let without : schema_count (content_schema_doc a.content_schema) ≡ 0 = ap (λ c. schema_count (content_schema_doc c)) none ∙ schema_count-none in
+    omega (arith, array_counts (record a { content_schema = content }), array_counts a, without)
+
+pub object_content_counts : (o : Object) (content : ContentSchema) → o.content_schema ≡ None → schema_count (object_doc (record o { content_schema = content })) ≡ schema_count (object_doc o) + schema_count (content_schema_doc content)
+object_content_counts o content none =
+    let without : schema_count (content_schema_doc o.content_schema) ≡ 0 = ap (λ c. schema_count (content_schema_doc c)) none ∙ schema_count-none in
+    omega (arith, object_counts (record o { content_schema = content }), object_counts o, without)
+
+pub single_array : (a : Array) (content : ContentSchema) (old new : ℕ) → a.content_schema ≡ None → (new < 18446744073709551615 → old + schema_count (array_doc a) ≤ new) → new < 18446744073709551615
+    → old + schema_count (schema_doc (schemas.Array (record a { content_schema = content }))) ≤ new + 1 + schema_count (content_schema_doc content)
+single_array a content old new none counted below =
+    omega (arith, counted below, array_content_counts a content none, ap schema_count (schema-Array (record a { content_schema = content })), counts_one (array_doc (record a { content_schema = content })))
+
+pub single_object : (o : Object) (content : ContentSchema) (old new : ℕ) → o.content_schema ≡ None → (new < 18446744073709551615 → old + schema_count (object_doc o) ≤ new) → new < 18446744073709551615
+    → old + schema_count (schema_doc (schemas.Object (record o { content_schema = content }))) ≤ new + 1 + schema_count (content_schema_doc content)
+single_object o content old new none counted below =
+    omega (arith, counted below, object_content_counts o content none, ap schema_count (schema-Object (record o { content_schema = content })), counts_one (object_doc (record o { content_schema = content })))
+
+-- ---- an array and an object without a content schema, whose members were counted one after the other
+
+pub array_kept : (a : Array) (items : ArrayItems) (prefix : Vec Schema Global) (old mid new : ℕ) → (a.items ≡ items) × (a.prefix_items ≡ prefix) × (a.content_schema ≡ None)
+    → (mid < 18446744073709551615 → old + schema_count (array_items_doc items) ≤ mid) → mid ≤ new → (new < 18446744073709551615 → mid + schema_count (list_of_docs schema_doc prefix) ≤ new)
+    → new < 18446744073709551615 → old + schema_count (array_doc a) ≤ new
+array_kept a items prefix old mid new k first grows second below =
+    let one = ap (λ i. schema_count (array_items_doc i)) k.0 in
+    let two = ap (λ v. schema_count (list_of_docs schema_doc v)) k.1 in
+    let none : schema_count (content_schema_doc a.content_schema) ≡ 0 = ap (λ c. schema_count (content_schema_doc c)) k.2 ∙ schema_count-none in
+    omega (arith, array_counts a, one, two, none, first (omega (arith, grows, below)), second below)
+
+pub object_kept : (o : Object) (properties : BTreeMap (String Global) (RefOr Schema)) (additional : Option (Box (AdditionalProperties Schema) Global)) (names : Option (Box Schema Global)) (old mid later new : ℕ)
+    → (o.properties ≡ properties) × (o.additional_properties ≡ additional) × (o.property_names ≡ names) × (o.content_schema ≡ None)
+    → (mid < 18446744073709551615 → old + schema_count (map_of_docs (ref_or_doc schema schema_doc) properties) ≤ mid)
+    → mid ≤ later → (later < 18446744073709551615 → mid + schema_count (option_of (boxed (additional_properties_doc schema_doc)) additional) ≤ later)
+    → later ≤ new → (new < 18446744073709551615 → later + schema_count (option_of (boxed schema_doc) names) ≤ new)
+    → new < 18446744073709551615 → old + schema_count (object_doc o) ≤ new
+object_kept o properties additional names old mid later new k first grows second rises third below =
+    let one = ap (λ m. schema_count (map_of_docs (ref_or_doc schema schema_doc) m)) k.0 in
+    let two = ap (λ q. schema_count (option_of (boxed (additional_properties_doc schema_doc)) q)) k.1 in
+    let three = ap (λ q. schema_count (option_of (boxed schema_doc) q)) k.2 in
+    let none : schema_count (content_schema_doc o.content_schema) ≡ 0 = ap (λ c. schema_count (content_schema_doc c)) k.3 ∙ schema_count-none in
+    omega (arith, object_counts o, one, two, three, none, first (omega (arith, grows, rises, below)), second (omega (arith, rises, below)), third below)

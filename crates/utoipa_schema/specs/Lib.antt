@@ -1,0 +1,7 @@
+pub mod Builders
+pub mod Choice
+pub mod Docs
+pub mod Folds
+pub mod Layers
+pub mod OfKind
+pub mod Plain

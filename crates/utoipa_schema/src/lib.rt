@@ -1,0 +1,27 @@
+//! Schemas: what the values of an API have to be.
+#![tactic(auto)]
+
+pub mod all_of;
+pub mod any_of;
+pub mod array;
+pub mod conversions;
+mod copy;
+pub mod object;
+pub mod one_of;
+mod plain;
+mod read;
+mod rest;
+#[cfg(test)]
+mod tests;
+pub mod trees;
+pub mod types;
+mod write;
+
+pub use all_of::AllOfBuilder;
+pub use any_of::AnyOfBuilder;
+pub use array::{ArrayBuilder, RefToArray, ToArray};
+pub use conversions::{IsReference, schema_from_ref_or};
+pub use object::{ObjectBuilder, empty};
+pub use one_of::OneOfBuilder;
+pub use trees::{read_ref_or_schema, read_schema_list, read_schema_map};
+pub use types::{AdditionalProperties, AllOf, AnyOf, Array, ArrayItems, Object, OneOf, Schema};

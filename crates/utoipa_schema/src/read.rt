@@ -1,0 +1,563 @@
+//! Reading schemas, which hold each other.
+//!
+//! A place that may hold a schema is read by [`read_place`] or, where no reference may stand, by [`read_schema`]; both count it
+//! at entry. The functions below call each other on the way from an object to its members that hold schemas.
+ghost use Rattle.std.specs.Prelude.{◌≡◌, ◌≤◌, ◌<◌, ◌+◌, None, Some, IfOk, IfErr, codes};
+ghost use Rattle.serde_json.specs.View.{view};
+ghost use Rattle.utoipa_base.specs.Faults.{Refuses};
+ghost use Rattle.utoipa_base.specs.Fields.{field};
+ghost use Rattle.utoipa_base.specs.Kinds.{schema, array_items, additional_properties as additional_kind, ref_or, list_of, map_of, named, one_of_schema, all_of_schema, any_of_schema, array_schema, object_schema, required, optional, defaulted};
+ghost use Rattle.utoipa_base.specs.Reading.{read};
+ghost use Rattle.utoipa_base.specs.Refs.{ref_or_doc};
+ghost use Rattle.utoipa_base.specs.Tables.{row};
+ghost use Rattle.utoipa_base.specs.Values.{values, values_at, schema_count};
+ghost use Rattle.utoipa_base.specs.Views.{option_of, list_of_docs, map_of_docs};
+ghost use Rattle.utoipa_schema.specs.Choice.{IsNoCombination, ContentSchema, content_schema_doc, content_schema_row, HasContent};
+ghost use Rattle.utoipa_schema.specs.Docs.{boxed, places_doc, additional_properties_doc, schema_doc, array_items_doc, one_of_doc, all_of_doc, any_of_doc, array_doc, object_doc};
+
+use crate::rest::{
+    all_of_rest, any_of_rest, array_rest, array_with_content, may_be_object, object_rest,
+    object_with_content, one_of_rest,
+};
+use crate::types::{AdditionalProperties, AllOf, AnyOf, Array, ArrayItems, Object, OneOf, Schema};
+use serde_json::Value;
+use std::alloc::Global;
+use std::collections::BTreeMap;
+use utoipa_base::{ReadFault, Readings, Ref, RefOr, Tree};
+
+/// A schema, where no reference may stand.
+#[cycle(read)]
+pub(crate) fn read_schema(
+    alloc: Global,
+    tree: &Value,
+    readings: &mut Readings,
+) -> Result<Schema, ReadFault>
+    ensures ok { IfOk result (λ s. read schema (view tree.now) ≡ Some (schema_doc s)) }
+    ensures err { IfErr result (Refuses (read schema (view tree.now))) }
+    ensures grows { readings.old ≤ readings.new }
+    ensures at_most { readings.new ≤ readings.old + values (view tree.now) }
+    ensures at_least { IfOk result (λ s. readings.new < u64.MAX
+        → readings.old + schema_count (schema_doc s) ≤ readings.new) }
+{
+    readings.tick();
+    read_alternatives(alloc, tree, readings)
+}
+
+/// A reference, or else a schema.
+#[cycle(read)]
+pub(crate) fn read_place(
+    alloc: Global,
+    tree: &Value,
+    readings: &mut Readings,
+) -> Result<RefOr<Schema>, ReadFault>
+    ensures ok { IfOk result (λ s. read (ref_or schema) (view tree.now) ≡ Some (ref_or_doc schema schema_doc s)) }
+    ensures err { IfErr result (Refuses (read (ref_or schema) (view tree.now))) }
+    ensures grows { readings.old ≤ readings.new }
+    ensures at_most { readings.new ≤ readings.old + values (view tree.now) }
+    ensures at_least { IfOk result (λ s. readings.new < u64.MAX
+        → readings.old + schema_count (ref_or_doc schema schema_doc s) ≤ readings.new) }
+{
+    readings.tick();
+    let mut uncounted = Readings::new();
+    match Ref::read_plain(alloc, tree, &mut uncounted) {
+        Ok(reference) => return Ok(RefOr::Ref(reference)),
+        Err(ReadFault::Memory) => return Err(ReadFault::Memory),
+        Err(_) => {}
+    }
+    Ok(RefOr::T(read_alternatives(alloc, tree, readings)?))
+}
+
+/// The first alternative of a schema that fits, whose place has been counted. A tree that fits none is refused as
+/// `Alternative`, whatever failed inside.
+#[cycle(read)]
+fn read_alternatives(
+    alloc: Global,
+    tree: &Value,
+    readings: &mut Readings,
+) -> Result<Schema, ReadFault>
+    ensures ok { IfOk result (λ s. read schema (view tree.now) ≡ Some (schema_doc s)) }
+    ensures err { IfErr result (Refuses (read schema (view tree.now))) }
+    ensures grows { readings.old ≤ readings.new }
+    ensures at_most { readings.new + 1 ≤ readings.old + values (view tree.now) }
+    ensures at_least { IfOk result (λ s. readings.new < u64.MAX
+        → readings.old + schema_count (schema_doc s) ≤ readings.new + 1) }
+{
+    match read_one_of(alloc, tree, readings) {
+        Ok(one_of) => return Ok(Schema::OneOf(one_of)),
+        Err(ReadFault::Memory) => return Err(ReadFault::Memory),
+        Err(_) => {}
+    }
+    match read_all_of(alloc, tree, readings) {
+        Ok(all_of) => return Ok(Schema::AllOf(all_of)),
+        Err(ReadFault::Memory) => return Err(ReadFault::Memory),
+        Err(_) => {}
+    }
+    match read_any_of(alloc, tree, readings) {
+        Ok(any_of) => return Ok(Schema::AnyOf(any_of)),
+        Err(ReadFault::Memory) => return Err(ReadFault::Memory),
+        Err(_) => {}
+    }
+    match read_content_schema(alloc, tree, readings) {
+        Ok(mut content_schema) => {
+            read_array_or_object(alloc, tree, &mut content_schema, readings)
+        }
+        Err(ReadFault::Memory) => Err(ReadFault::Memory),
+        Err(_) => Err(ReadFault::Alternative),
+    }
+}
+
+/// An array, or else an object, which takes the content schema that has been read: both have that member, and it is read once.
+#[cycle(read)]
+fn read_array_or_object(
+    alloc: Global,
+    tree: &Value,
+    content_schema: &mut Option<Box<RefOr<Schema>>>,
+    readings: &mut Readings,
+) -> Result<Schema, ReadFault>
+    requires no_combination { IsNoCombination (view tree.now) }
+    requires content { HasContent (view tree.now) content_schema.old }
+    ensures ok { IfOk result (λ s. read schema (view tree.now) ≡ Some (schema_doc s)) }
+    ensures err { IfErr result (Refuses (read schema (view tree.now))) }
+    ensures grows { readings.old ≤ readings.new }
+    ensures at_most { readings.new ≤ readings.old
+        + (values_at (codes "items") (view tree.now) + values_at (codes "prefixItems") (view tree.now))
+        + (values_at (codes "properties") (view tree.now) + values_at (codes "additionalProperties") (view tree.now) + values_at (codes "propertyNames") (view tree.now)) }
+    ensures at_least { IfOk result (λ s. readings.new < u64.MAX
+        → readings.old + schema_count (schema_doc s) ≤ readings.new + 1 + schema_count (content_schema_doc content_schema.old)) }
+{
+    match array_without_content(alloc, tree, readings) {
+        Ok(array) => {
+            let array = array_with_content(array, content_schema.take());
+            return Ok(Schema::Array(array));
+        }
+        Err(ReadFault::Memory) => return Err(ReadFault::Memory),
+        Err(_) => {}
+    }
+    if !may_be_object(tree) {
+        return Err(ReadFault::Alternative);
+    }
+    match object_without_content(alloc, tree, readings) {
+        Ok(object) => {
+            let object = object_with_content(object, content_schema.take());
+            Ok(Schema::Object(object))
+        }
+        Err(ReadFault::Memory) => Err(ReadFault::Memory),
+        Err(_) => Err(ReadFault::Alternative),
+    }
+}
+
+/// A schema with `oneOf`.
+#[cycle(read)]
+pub(crate) fn read_one_of(
+    alloc: Global,
+    tree: &Value,
+    readings: &mut Readings,
+) -> Result<OneOf, ReadFault>
+    ensures ok { IfOk result (λ s. read (named one_of_schema) (view tree.now) ≡ Some (one_of_doc s)) }
+    ensures err { IfErr result (Refuses (read (named one_of_schema) (view tree.now))) }
+    ensures grows { readings.old ≤ readings.new }
+    ensures at_most { readings.new ≤ readings.old + values_at (codes "oneOf") (view tree.now) }
+    ensures at_least { IfOk result (λ s. readings.new < u64.MAX
+        → readings.old + schema_count (one_of_doc s) ≤ readings.new) }
+{
+    let items = read_items_of(alloc, tree, "oneOf", readings)?;
+    one_of_rest(alloc, tree, items)
+}
+
+/// A schema with `allOf`.
+#[cycle(read)]
+pub(crate) fn read_all_of(
+    alloc: Global,
+    tree: &Value,
+    readings: &mut Readings,
+) -> Result<AllOf, ReadFault>
+    ensures ok { IfOk result (λ s. read (named all_of_schema) (view tree.now) ≡ Some (all_of_doc s)) }
+    ensures err { IfErr result (Refuses (read (named all_of_schema) (view tree.now))) }
+    ensures grows { readings.old ≤ readings.new }
+    ensures at_most { readings.new ≤ readings.old + values_at (codes "allOf") (view tree.now) }
+    ensures at_least { IfOk result (λ s. readings.new < u64.MAX
+        → readings.old + schema_count (all_of_doc s) ≤ readings.new) }
+{
+    let items = read_items_of(alloc, tree, "allOf", readings)?;
+    all_of_rest(alloc, tree, items)
+}
+
+/// A schema with `anyOf`.
+#[cycle(read)]
+pub(crate) fn read_any_of(
+    alloc: Global,
+    tree: &Value,
+    readings: &mut Readings,
+) -> Result<AnyOf, ReadFault>
+    ensures ok { IfOk result (λ s. read (named any_of_schema) (view tree.now) ≡ Some (any_of_doc s)) }
+    ensures err { IfErr result (Refuses (read (named any_of_schema) (view tree.now))) }
+    ensures grows { readings.old ≤ readings.new }
+    ensures at_most { readings.new ≤ readings.old + values_at (codes "anyOf") (view tree.now) }
+    ensures at_least { IfOk result (λ s. readings.new < u64.MAX
+        → readings.old + schema_count (any_of_doc s) ≤ readings.new) }
+{
+    let items = read_items_of(alloc, tree, "anyOf", readings)?;
+    any_of_rest(alloc, tree, items)
+}
+
+/// An array with no content schema. With any that the tree has it is the array that the tree is.
+#[cycle(read)]
+fn array_without_content(
+    alloc: Global,
+    tree: &Value,
+    readings: &mut Readings,
+) -> Result<Array, ReadFault>
+    ensures ok { IfOk result (λ s. (content : ContentSchema) → HasContent (view tree.now) content
+        → read (named array_schema) (view tree.now) ≡ Some (array_doc (record s { content_schema = content }))) }
+    ensures err { IfErr result (Refuses (read (named array_schema) (view tree.now))) }
+    ensures without { IfOk result (λ s. s.content_schema ≡ None) }
+    ensures grows { readings.old ≤ readings.new }
+    ensures at_most { readings.new ≤ readings.old + (values_at (codes "items") (view tree.now) + values_at (codes "prefixItems") (view tree.now)) }
+    ensures at_least { IfOk result (λ s. readings.new < u64.MAX
+        → readings.old + schema_count (array_doc s) ≤ readings.new) }
+{
+    let items = read_items_member(alloc, tree, readings)?;
+    let prefix_items = read_prefix_items(alloc, tree, readings)?;
+    array_rest(alloc, tree, items, prefix_items)
+}
+
+/// An object with no content schema. With any that the tree has it is the object that the tree is.
+#[cycle(read)]
+fn object_without_content(
+    alloc: Global,
+    tree: &Value,
+    readings: &mut Readings,
+) -> Result<Object, ReadFault>
+    ensures ok { IfOk result (λ s. (content : ContentSchema) → HasContent (view tree.now) content
+        → read (named object_schema) (view tree.now) ≡ Some (object_doc (record s { content_schema = content }))) }
+    ensures err { IfErr result (Refuses (read (named object_schema) (view tree.now))) }
+    ensures without { IfOk result (λ s. s.content_schema ≡ None) }
+    ensures grows { readings.old ≤ readings.new }
+    ensures at_most { readings.new ≤ readings.old + (values_at (codes "properties") (view tree.now) + values_at (codes "additionalProperties") (view tree.now) + values_at (codes "propertyNames") (view tree.now)) }
+    ensures at_least { IfOk result (λ s. readings.new < u64.MAX
+        → readings.old + schema_count (object_doc s) ≤ readings.new) }
+{
+    let properties = read_properties_member(alloc, tree, readings)?;
+    let additional_properties = read_additional_member(alloc, tree, readings)?;
+    let property_names = read_property_names(alloc, tree, readings)?;
+    object_rest(
+        alloc,
+        tree,
+        properties,
+        additional_properties,
+        property_names,
+    )
+}
+
+/// The schemas of a combination, by the name of its member.
+#[cycle(read)]
+fn read_items_of(
+    alloc: Global,
+    tree: &Value,
+    name: &'static str,
+    readings: &mut Readings,
+) -> Result<Vec<RefOr<Schema>>, ReadFault>
+    ensures ok { IfOk result (λ s. field (row name.now required (list_of (ref_or schema))) (view tree.now) ≡ Some (places_doc schema_doc s)) }
+    ensures err { IfErr result (Refuses (field (row name.now required (list_of (ref_or schema))) (view tree.now))) }
+    ensures grows { readings.old ≤ readings.new }
+    ensures at_most { readings.new ≤ readings.old + values_at name.now (view tree.now) }
+    ensures at_least { IfOk result (λ s. readings.new < u64.MAX
+        → readings.old + schema_count (places_doc schema_doc s) ≤ readings.new) }
+{
+    match tree.get(name) {
+        Some(member) => read_places(alloc, member, readings),
+        None => Err(ReadFault::Missing(name)),
+    }
+}
+
+/// The items of an array: the member `items`.
+#[cycle(read)]
+fn read_items_member(
+    alloc: Global,
+    tree: &Value,
+    readings: &mut Readings,
+) -> Result<ArrayItems, ReadFault>
+    ensures ok { IfOk result (λ s. field (row (codes "items") required array_items) (view tree.now) ≡ Some (array_items_doc s)) }
+    ensures err { IfErr result (Refuses (field (row (codes "items") required array_items) (view tree.now))) }
+    ensures grows { readings.old ≤ readings.new }
+    ensures at_most { readings.new ≤ readings.old + values_at (codes "items") (view tree.now) }
+    ensures at_least { IfOk result (λ s. readings.new < u64.MAX
+        → readings.old + schema_count (array_items_doc s) ≤ readings.new) }
+{
+    match tree.get("items") {
+        Some(member) => read_items(alloc, member, readings),
+        None => Err(ReadFault::Missing("items")),
+    }
+}
+
+/// The schemas of the first items: the member `prefixItems`.
+#[cycle(read)]
+fn read_prefix_items(
+    alloc: Global,
+    tree: &Value,
+    readings: &mut Readings,
+) -> Result<Vec<Schema>, ReadFault>
+    ensures ok { IfOk result (λ s. field (row (codes "prefixItems") defaulted (list_of schema)) (view tree.now) ≡ Some (list_of_docs schema_doc s)) }
+    ensures err { IfErr result (Refuses (field (row (codes "prefixItems") defaulted (list_of schema)) (view tree.now))) }
+    ensures grows { readings.old ≤ readings.new }
+    ensures at_most { readings.new ≤ readings.old + values_at (codes "prefixItems") (view tree.now) }
+    ensures at_least { IfOk result (λ s. readings.new < u64.MAX
+        → readings.old + schema_count (list_of_docs schema_doc s) ≤ readings.new) }
+{
+    match tree.get("prefixItems") {
+        Some(member) => read_schemas(alloc, member, readings),
+        None => Ok(Vec::new(alloc)),
+    }
+}
+
+/// The schemas of the properties: the member `properties`.
+#[cycle(read)]
+fn read_properties_member(
+    alloc: Global,
+    tree: &Value,
+    readings: &mut Readings,
+) -> Result<BTreeMap<String, RefOr<Schema>>, ReadFault>
+    ensures ok { IfOk result (λ s. field (row (codes "properties") defaulted (map_of (ref_or schema))) (view tree.now) ≡ Some (map_of_docs (ref_or_doc schema schema_doc) s)) }
+    ensures err { IfErr result (Refuses (field (row (codes "properties") defaulted (map_of (ref_or schema))) (view tree.now))) }
+    ensures grows { readings.old ≤ readings.new }
+    ensures at_most { readings.new ≤ readings.old + values_at (codes "properties") (view tree.now) }
+    ensures at_least { IfOk result (λ s. readings.new < u64.MAX
+        → readings.old + schema_count (map_of_docs (ref_or_doc schema schema_doc) s) ≤ readings.new) }
+{
+    match tree.get("properties") {
+        Some(member) => read_properties(alloc, member, readings),
+        None => Ok(BTreeMap::new(alloc)),
+    }
+}
+
+/// The schema of a text's content: the member `contentSchema`.
+#[cycle(read)]
+pub(crate) fn read_content_schema(
+    alloc: Global,
+    tree: &Value,
+    readings: &mut Readings,
+) -> Result<Option<Box<RefOr<Schema>>>, ReadFault>
+    ensures ok { IfOk result (λ s. field (row (codes "contentSchema") optional (ref_or schema)) (view tree.now) ≡ Some (content_schema_doc s)) }
+    ensures err { IfErr result (Refuses (field (row (codes "contentSchema") optional (ref_or schema)) (view tree.now))) }
+    ensures grows { readings.old ≤ readings.new }
+    ensures at_most { readings.new ≤ readings.old + values_at (codes "contentSchema") (view tree.now) }
+    ensures at_least { IfOk result (λ s. readings.new < u64.MAX
+        → readings.old + schema_count (content_schema_doc s) ≤ readings.new) }
+{
+    match tree.get("contentSchema") {
+        Some(member) => {
+            if member.is_null() {
+                return Ok(None);
+            }
+            let value = read_place(alloc, member, readings)?;
+            Ok(Some(Box::new(alloc, value)?))
+        }
+        None => Ok(None),
+    }
+}
+
+/// What the other properties are: the member `additionalProperties`.
+#[cycle(read)]
+fn read_additional_member(
+    alloc: Global,
+    tree: &Value,
+    readings: &mut Readings,
+) -> Result<Option<Box<AdditionalProperties<Schema>>>, ReadFault>
+    ensures ok { IfOk result (λ s. field (row (codes "additionalProperties") optional additional_kind) (view tree.now) ≡ Some (option_of (boxed (additional_properties_doc schema_doc)) s)) }
+    ensures err { IfErr result (Refuses (field (row (codes "additionalProperties") optional additional_kind) (view tree.now))) }
+    ensures grows { readings.old ≤ readings.new }
+    ensures at_most { readings.new ≤ readings.old + values_at (codes "additionalProperties") (view tree.now) }
+    ensures at_least { IfOk result (λ s. readings.new < u64.MAX
+        → readings.old + schema_count (option_of (boxed (additional_properties_doc schema_doc)) s) ≤ readings.new) }
+{
+    match tree.get("additionalProperties") {
+        Some(member) => {
+            if member.is_null() {
+                return Ok(None);
+            }
+            let value = read_additional(alloc, member, readings)?;
+            Ok(Some(Box::new(alloc, value)?))
+        }
+        None => Ok(None),
+    }
+}
+
+/// What the names of properties are: the member `propertyNames`.
+#[cycle(read)]
+fn read_property_names(
+    alloc: Global,
+    tree: &Value,
+    readings: &mut Readings,
+) -> Result<Option<Box<Schema>>, ReadFault>
+    ensures ok { IfOk result (λ s. field (row (codes "propertyNames") optional schema) (view tree.now) ≡ Some (option_of (boxed schema_doc) s)) }
+    ensures err { IfErr result (Refuses (field (row (codes "propertyNames") optional schema) (view tree.now))) }
+    ensures grows { readings.old ≤ readings.new }
+    ensures at_most { readings.new ≤ readings.old + values_at (codes "propertyNames") (view tree.now) }
+    ensures at_least { IfOk result (λ s. readings.new < u64.MAX
+        → readings.old + schema_count (option_of (boxed schema_doc) s) ≤ readings.new) }
+{
+    match tree.get("propertyNames") {
+        Some(member) => {
+            if member.is_null() {
+                return Ok(None);
+            }
+            let value = read_schema(alloc, member, readings)?;
+            Ok(Some(Box::new(alloc, value)?))
+        }
+        None => Ok(None),
+    }
+}
+
+/// What the items of an array are: `false`, a reference, or a schema.
+#[cycle(read)]
+pub(crate) fn read_items(
+    alloc: Global,
+    tree: &Value,
+    readings: &mut Readings,
+) -> Result<ArrayItems, ReadFault>
+    ensures ok { IfOk result (λ s. read array_items (view tree.now) ≡ Some (array_items_doc s)) }
+    ensures err { IfErr result (Refuses (read array_items (view tree.now))) }
+    ensures grows { readings.old ≤ readings.new }
+    ensures at_most { readings.new ≤ readings.old + values (view tree.now) }
+    ensures at_least { IfOk result (λ s. readings.new < u64.MAX
+        → readings.old + schema_count (array_items_doc s) ≤ readings.new) }
+{
+    match tree.as_bool() {
+        Some(false) => Ok(ArrayItems::False),
+        Some(true) => Err(ReadFault::Alternative),
+        None => {
+            let place = read_place(alloc, tree, readings)?;
+            Ok(ArrayItems::RefOrSchema(Box::new(alloc, place)?))
+        }
+    }
+}
+
+/// What the properties are that an object does not list: true, false, a reference, or a schema.
+#[cycle(read)]
+pub(crate) fn read_additional(
+    alloc: Global,
+    tree: &Value,
+    readings: &mut Readings,
+) -> Result<AdditionalProperties<Schema>, ReadFault>
+    ensures ok { IfOk result (λ s. read additional_kind (view tree.now) ≡ Some (additional_properties_doc schema_doc s)) }
+    ensures err { IfErr result (Refuses (read additional_kind (view tree.now))) }
+    ensures grows { readings.old ≤ readings.new }
+    ensures at_most { readings.new ≤ readings.old + values (view tree.now) }
+    ensures at_least { IfOk result (λ s. readings.new < u64.MAX
+        → readings.old + schema_count (additional_properties_doc schema_doc s) ≤ readings.new) }
+{
+    match tree.as_bool() {
+        Some(free) => Ok(AdditionalProperties::FreeForm(free)),
+        None => Ok(AdditionalProperties::RefOr(read_place(alloc, tree, readings)?)),
+    }
+}
+
+/// A list of schemas.
+#[cycle(read)]
+fn read_schemas(
+    alloc: Global,
+    tree: &Value,
+    readings: &mut Readings,
+) -> Result<Vec<Schema>, ReadFault>
+    ensures ok { IfOk result (λ s. read (list_of schema) (view tree.now) ≡ Some (list_of_docs schema_doc s)) }
+    ensures err { IfErr result (Refuses (read (list_of schema) (view tree.now))) }
+    ensures grows { readings.old ≤ readings.new }
+    ensures at_most { readings.new ≤ readings.old + values (view tree.now) }
+    ensures at_least { IfOk result (λ s. readings.new < u64.MAX
+        → readings.old + schema_count (list_of_docs schema_doc s) ≤ readings.new) }
+{
+    let Some(items) = tree.as_array() else {
+        return Err(ReadFault::Kind("list"));
+    };
+    let mut list = Vec::new(alloc);
+    for item in items {
+        list.push(read_schema(alloc, item, readings)?)?;
+    }
+    Ok(list)
+}
+
+/// A list of references and schemas.
+#[cycle(read)]
+pub(crate) fn read_places(
+    alloc: Global,
+    tree: &Value,
+    readings: &mut Readings,
+) -> Result<Vec<RefOr<Schema>>, ReadFault>
+    ensures ok { IfOk result (λ s. read (list_of (ref_or schema)) (view tree.now) ≡ Some (places_doc schema_doc s)) }
+    ensures err { IfErr result (Refuses (read (list_of (ref_or schema)) (view tree.now))) }
+    ensures grows { readings.old ≤ readings.new }
+    ensures at_most { readings.new ≤ readings.old + values (view tree.now) }
+    ensures at_least { IfOk result (λ s. readings.new < u64.MAX
+        → readings.old + schema_count (places_doc schema_doc s) ≤ readings.new) }
+{
+    let Some(items) = tree.as_array() else {
+        return Err(ReadFault::Kind("list"));
+    };
+    let mut list = Vec::new(alloc);
+    for item in items {
+        list.push(read_place(alloc, item, readings)?)?;
+    }
+    Ok(list)
+}
+
+/// References and schemas by their names.
+#[cycle(read)]
+pub(crate) fn read_properties(
+    alloc: Global,
+    tree: &Value,
+    readings: &mut Readings,
+) -> Result<BTreeMap<String, RefOr<Schema>>, ReadFault>
+    ensures ok { IfOk result (λ s. read (map_of (ref_or schema)) (view tree.now) ≡ Some (map_of_docs (ref_or_doc schema schema_doc) s)) }
+    ensures err { IfErr result (Refuses (read (map_of (ref_or schema)) (view tree.now))) }
+    ensures grows { readings.old ≤ readings.new }
+    ensures at_most { readings.new ≤ readings.old + values (view tree.now) }
+    ensures at_least { IfOk result (λ s. readings.new < u64.MAX
+        → readings.old + schema_count (map_of_docs (ref_or_doc schema schema_doc) s) ≤ readings.new) }
+{
+    let Some(members) = tree.as_object() else {
+        return Err(ReadFault::Kind("map"));
+    };
+    let mut map = BTreeMap::new(alloc);
+    for (key, member) in members.iter() {
+        let name = key.clone()?;
+        let value = read_place(alloc, member, readings)?;
+        drop(map.insert(name, value)?);
+    }
+    Ok(map)
+}
+
+/// An array, by its whole table.
+pub(crate) fn read_array(
+    alloc: Global,
+    tree: &Value,
+    readings: &mut Readings,
+) -> Result<Array, ReadFault>
+    ensures ok { IfOk result (λ s. read (named array_schema) (view tree.now) ≡ Some (array_doc s)) }
+    ensures err { IfErr result (Refuses (read (named array_schema) (view tree.now))) }
+    ensures grows { readings.old ≤ readings.new }
+    ensures at_most { readings.new ≤ readings.old + values (view tree.now) }
+    ensures at_least { IfOk result (λ s. readings.new < u64.MAX
+        → readings.old + schema_count (array_doc s) ≤ readings.new) }
+{
+    let array = array_without_content(alloc, tree, readings)?;
+    let content_schema = read_content_schema(alloc, tree, readings)?;
+    Ok(array_with_content(array, content_schema))
+}
+
+/// An object, by its whole table.
+pub(crate) fn read_object(
+    alloc: Global,
+    tree: &Value,
+    readings: &mut Readings,
+) -> Result<Object, ReadFault>
+    ensures ok { IfOk result (λ s. read (named object_schema) (view tree.now) ≡ Some (object_doc s)) }
+    ensures err { IfErr result (Refuses (read (named object_schema) (view tree.now))) }
+    ensures grows { readings.old ≤ readings.new }
+    ensures at_most { readings.new ≤ readings.old + values (view tree.now) }
+    ensures at_least { IfOk result (λ s. readings.new < u64.MAX
+        → readings.old + schema_count (object_doc s) ≤ readings.new) }
+{
+    let object = object_without_content(alloc, tree, readings)?;
+    let content_schema = read_content_schema(alloc, tree, readings)?;
+    Ok(object_with_content(object, content_schema))
+}

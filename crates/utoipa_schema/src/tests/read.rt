@@ -1,0 +1,92 @@
+// Schemas that are read, and how many schema readings that takes.
+use crate::types::Schema;
+use serde_json::Value;
+use std::alloc::Global;
+use std::test::Fail;
+use utoipa_base::{ReadFault, RefOr, Tree};
+
+// The schema readings of a text as a type, whether it is read or refused.
+fn readings<T: Tree>(alloc: Global, json: &str) -> Result<u64, Fail> {
+    let tree = Value::from_str(alloc, json)?;
+    Ok(T::from_value_counted(alloc, &tree).readings)
+}
+
+#[test]
+fn a_content_schema_is_read_once_a_level(rt: HostRuntime) -> Result<(), Fail> {
+    let json =
+        r#"{"type":"string","contentSchema":{"type":"string","contentSchema":{"type":"string"}}}"#;
+    assert_eq!(rt; readings::<Schema>(rt.alloc(), json)?, 3);
+    Ok(())
+}
+
+#[test]
+fn a_reference_counts_in_the_place_of_a_schema(rt: HostRuntime) -> Result<(), Fail> {
+    let json =
+        r##"{"type":"object","properties":{"a":{"$ref":"#/x"},"b":{"type":"array","items":{"type":"string"}}}}"##;
+    assert_eq!(rt;
+        readings::<RefOr<Schema>>(rt.alloc(), r##"{"$ref":"#/a"}"##)?,
+        1
+    );
+    assert_eq!(rt; readings::<Schema>(rt.alloc(), json)?, 4);
+    Ok(())
+}
+
+#[test]
+fn nothing_is_read_of_a_fraction(rt: HostRuntime) -> Result<(), Fail> {
+    let json = r#"{"type":"string","minimum":0.5}"#;
+    assert_eq!(rt; readings::<Schema>(rt.alloc(), json)?, 0);
+    Ok(())
+}
+
+#[test]
+fn a_refusal_takes_no_more_readings_than_values(rt: HostRuntime) -> Result<(), Fail> {
+    let count = readings::<Schema>(rt.alloc(), r#"{"contentSchema":{"type":5}}"#)?;
+    assert!(rt; count <= 3);
+    let items = readings::<Schema>(rt.alloc(), r#"{"type":"array","items":{"type":5}}"#)?;
+    assert!(rt; 1 <= items && items <= 4);
+    Ok(())
+}
+
+#[test]
+fn a_combination_leaves_other_members_unread(rt: HostRuntime) -> Result<(), Fail> {
+    let json = r#"{"type":"object","oneOf":[{},{}],"properties":{"p":{}}}"#;
+    let count = readings::<Schema>(rt.alloc(), json)?;
+    assert!(rt; 3 <= count && count <= 7);
+    Ok(())
+}
+
+// Levels of objects, each with a beginning and the next one as its `contentSchema`.
+fn nested(alloc: Global, begin: &str, innermost: &str) -> Result<String, Fail> {
+    let mut json = String::new(alloc);
+    for _ in 0..60 {
+        json.push_str(begin)?;
+    }
+    json.push_str(innermost)?;
+    for _ in 0..60 {
+        json.push_str("}")?;
+    }
+    Ok(json)
+}
+
+#[test]
+fn sixty_levels_take_sixty_one_readings(rt: HostRuntime) -> Result<(), Fail> {
+    let json = nested(rt.alloc(), "{\"type\":\"string\",\"contentSchema\":", "{}")?;
+    assert_eq!(rt; readings::<Schema>(rt.alloc(), json.as_str())?, 61);
+    Ok(())
+}
+
+#[test]
+fn sixty_levels_that_fit_nothing_are_refused(rt: HostRuntime) -> Result<(), Fail> {
+    let json = nested(
+        rt.alloc(),
+        "{\"type\":\"array\",\"items\":false,\"contentSchema\":",
+        "{\"type\":5}",
+    )?;
+    let tree = Value::from_str(rt.alloc(), json.as_str())?;
+    let refused = match Schema::from_value(rt.alloc(), &tree) {
+        Err(ReadFault::Alternative) => true,
+        _ => false,
+    };
+    assert!(rt; refused);
+    Ok(())
+}

@@ -1,0 +1,310 @@
+//! Schemas are read from trees and written as trees.
+//!
+//! A tree that fits no alternative of a schema is refused as `Alternative`, whatever failed inside.
+ghost use Rattle.std.specs.Prelude.{◌≡◌, Some, IfOk, IfErr, refl, true, false};
+ghost use Rattle.serde_json.specs.View.{view};
+ghost use Rattle.utoipa_base.specs.Faults.{Refuses};
+ghost use Rattle.utoipa_base.specs.Reading.{read as read_as};
+ghost use Rattle.utoipa_base.specs.Kinds.{schema, array_items, additional_properties, named, one_of_schema, all_of_schema, any_of_schema, array_schema, object_schema};
+ghost use Rattle.utoipa_schema.specs.Docs.{schema_doc, additional_properties_doc, array_items_doc, one_of_doc, all_of_doc, any_of_doc, array_doc, object_doc};
+ghost use Rattle.utoipa_schema.specs.OfKind.{schema_of_kind, additional_properties_of_kind, array_items_of_kind, one_of_of_kind, all_of_of_kind, any_of_of_kind, array_of_kind, object_of_kind};
+
+use crate::types::{AdditionalProperties, AllOf, AnyOf, Array, ArrayItems, Object, OneOf, Schema};
+use crate::{copy, read, write};
+use serde_json::Value;
+use std::alloc::{AllocError, Global};
+use std::collections::BTreeMap;
+use utoipa_base::{ReadFault, Readings, RefOr, Tree};
+
+/// A schema, by the first alternative that fits (OpenAPI 3.1, section 4.8.24).
+impl Tree for Schema {
+    ghost kind = { schema };
+
+    ghost doc = { schema_doc };
+
+    const IS_SCHEMA: bool = true;
+
+    ghost IS_SCHEMA = { true };
+
+    ghost is_of_kind = { schema_of_kind };
+
+    ghost counts_as_schema = { refl };
+
+    fn read_plain(
+        alloc: Global,
+        tree: &Value,
+        readings: &mut Readings,
+    ) -> Result<Schema, ReadFault> {
+        read::read_schema(alloc, tree, readings)
+    }
+
+    // A place is counted once, a reference too.
+    fn read_ref_or(
+        alloc: Global,
+        tree: &Value,
+        readings: &mut Readings,
+    ) -> Result<RefOr<Schema>, ReadFault> {
+        read::read_place(alloc, tree, readings)
+    }
+
+    fn to_value(&self, alloc: Global) -> Result<Value, AllocError> {
+        write::write_schema(alloc, self)
+    }
+
+    fn try_clone(&self, alloc: Global) -> Result<Schema, AllocError> {
+        copy::clone_schema(alloc, self)
+    }
+}
+
+/// A schema that is no combination and no array, by its member table alone.
+impl Tree for Object {
+    ghost kind = { named object_schema };
+
+    ghost doc = { object_doc };
+
+    const IS_SCHEMA: bool = false;
+
+    ghost IS_SCHEMA = { false };
+
+    ghost is_of_kind = { object_of_kind };
+
+    ghost counts_as_schema = { refl };
+
+    fn read_plain(
+        alloc: Global,
+        tree: &Value,
+        readings: &mut Readings,
+    ) -> Result<Object, ReadFault> {
+        read::read_object(alloc, tree, readings)
+    }
+
+    fn to_value(&self, alloc: Global) -> Result<Value, AllocError> {
+        write::write_object(alloc, self)
+    }
+
+    fn try_clone(&self, alloc: Global) -> Result<Object, AllocError> {
+        copy::clone_object(alloc, self)
+    }
+}
+
+/// A schema with `items`, by its member table alone.
+impl Tree for Array {
+    ghost kind = { named array_schema };
+
+    ghost doc = { array_doc };
+
+    const IS_SCHEMA: bool = false;
+
+    ghost IS_SCHEMA = { false };
+
+    ghost is_of_kind = { array_of_kind };
+
+    ghost counts_as_schema = { refl };
+
+    fn read_plain(
+        alloc: Global,
+        tree: &Value,
+        readings: &mut Readings,
+    ) -> Result<Array, ReadFault> {
+        read::read_array(alloc, tree, readings)
+    }
+
+    fn to_value(&self, alloc: Global) -> Result<Value, AllocError> {
+        write::write_array(alloc, self)
+    }
+
+    fn try_clone(&self, alloc: Global) -> Result<Array, AllocError> {
+        copy::clone_array(alloc, self)
+    }
+}
+
+/// A schema with `oneOf`, by its member table alone.
+impl Tree for OneOf {
+    ghost kind = { named one_of_schema };
+
+    ghost doc = { one_of_doc };
+
+    const IS_SCHEMA: bool = false;
+
+    ghost IS_SCHEMA = { false };
+
+    ghost is_of_kind = { one_of_of_kind };
+
+    ghost counts_as_schema = { refl };
+
+    fn read_plain(
+        alloc: Global,
+        tree: &Value,
+        readings: &mut Readings,
+    ) -> Result<OneOf, ReadFault> {
+        read::read_one_of(alloc, tree, readings)
+    }
+
+    fn to_value(&self, alloc: Global) -> Result<Value, AllocError> {
+        write::write_one_of(alloc, self)
+    }
+
+    fn try_clone(&self, alloc: Global) -> Result<OneOf, AllocError> {
+        copy::clone_one_of(alloc, self)
+    }
+}
+
+/// A schema with `allOf`, by its member table alone.
+impl Tree for AllOf {
+    ghost kind = { named all_of_schema };
+
+    ghost doc = { all_of_doc };
+
+    const IS_SCHEMA: bool = false;
+
+    ghost IS_SCHEMA = { false };
+
+    ghost is_of_kind = { all_of_of_kind };
+
+    ghost counts_as_schema = { refl };
+
+    fn read_plain(
+        alloc: Global,
+        tree: &Value,
+        readings: &mut Readings,
+    ) -> Result<AllOf, ReadFault> {
+        read::read_all_of(alloc, tree, readings)
+    }
+
+    fn to_value(&self, alloc: Global) -> Result<Value, AllocError> {
+        write::write_all_of(alloc, self)
+    }
+
+    fn try_clone(&self, alloc: Global) -> Result<AllOf, AllocError> {
+        copy::clone_all_of(alloc, self)
+    }
+}
+
+/// A schema with `anyOf`, by its member table alone.
+impl Tree for AnyOf {
+    ghost kind = { named any_of_schema };
+
+    ghost doc = { any_of_doc };
+
+    const IS_SCHEMA: bool = false;
+
+    ghost IS_SCHEMA = { false };
+
+    ghost is_of_kind = { any_of_of_kind };
+
+    ghost counts_as_schema = { refl };
+
+    fn read_plain(
+        alloc: Global,
+        tree: &Value,
+        readings: &mut Readings,
+    ) -> Result<AnyOf, ReadFault> {
+        read::read_any_of(alloc, tree, readings)
+    }
+
+    fn to_value(&self, alloc: Global) -> Result<Value, AllocError> {
+        write::write_any_of(alloc, self)
+    }
+
+    fn try_clone(&self, alloc: Global) -> Result<AnyOf, AllocError> {
+        copy::clone_any_of(alloc, self)
+    }
+}
+
+/// The items of an array: a reference, a schema, or `false`.
+impl Tree for ArrayItems {
+    ghost kind = { array_items };
+
+    ghost doc = { array_items_doc };
+
+    const IS_SCHEMA: bool = false;
+
+    ghost IS_SCHEMA = { false };
+
+    ghost is_of_kind = { array_items_of_kind };
+
+    ghost counts_as_schema = { refl };
+
+    fn read_plain(
+        alloc: Global,
+        tree: &Value,
+        readings: &mut Readings,
+    ) -> Result<ArrayItems, ReadFault> {
+        read::read_items(alloc, tree, readings)
+    }
+
+    fn to_value(&self, alloc: Global) -> Result<Value, AllocError> {
+        write::write_items(alloc, self)
+    }
+
+    fn try_clone(&self, alloc: Global) -> Result<ArrayItems, AllocError> {
+        copy::clone_items(alloc, self)
+    }
+}
+
+/// What the properties are that an object does not list: a reference, a schema, true or false.
+impl Tree for AdditionalProperties<Schema> {
+    ghost kind = { additional_properties };
+
+    ghost doc = { additional_properties_doc schema_doc };
+
+    const IS_SCHEMA: bool = false;
+
+    ghost IS_SCHEMA = { false };
+
+    ghost is_of_kind = { additional_properties_of_kind };
+
+    ghost counts_as_schema = { refl };
+
+    fn read_plain(
+        alloc: Global,
+        tree: &Value,
+        readings: &mut Readings,
+    ) -> Result<AdditionalProperties<Schema>, ReadFault> {
+        read::read_additional(alloc, tree, readings)
+    }
+
+    fn to_value(&self, alloc: Global) -> Result<Value, AllocError> {
+        write::write_additional(alloc, self)
+    }
+
+    fn try_clone(&self, alloc: Global) -> Result<AdditionalProperties<Schema>, AllocError> {
+        copy::clone_additional(alloc, self)
+    }
+}
+
+/// Reads a reference, or else a schema: what `RefOr<Schema>` reads.
+pub fn read_ref_or_schema(
+    alloc: Global,
+    tree: &Value,
+    readings: &mut Readings,
+) -> Result<RefOr<Schema>, ReadFault>
+    ensures ok { IfOk result (λ v. read_as ⟦<RefOr<Schema> as Tree>⟧.kind (view tree.now) ≡ Some (⟦<RefOr<Schema> as Tree>⟧.doc v)) }
+    ensures err { IfErr result (Refuses (read_as ⟦<RefOr<Schema> as Tree>⟧.kind (view tree.now))) }
+{
+    read::read_place(alloc, tree, readings)
+}
+
+/// Reads a list of references and schemas: what `Vec<RefOr<Schema>>` reads.
+pub fn read_schema_list(
+    alloc: Global,
+    tree: &Value,
+    readings: &mut Readings,
+) -> Result<Vec<RefOr<Schema>>, ReadFault>
+    ensures ok { IfOk result (λ v. read_as ⟦<Vec<RefOr<Schema>> as Tree>⟧.kind (view tree.now) ≡ Some (⟦<Vec<RefOr<Schema>> as Tree>⟧.doc v)) }
+    ensures err { IfErr result (Refuses (read_as ⟦<Vec<RefOr<Schema>> as Tree>⟧.kind (view tree.now))) }
+{
+    read::read_places(alloc, tree, readings)
+}
+
+/// Reads references and schemas by their names: what `BTreeMap<String, RefOr<Schema>>` reads.
+pub fn read_schema_map(
+    alloc: Global,
+    tree: &Value,
+    readings: &mut Readings,
+) -> Result<BTreeMap<String, RefOr<Schema>>, ReadFault>
+    ensures ok { IfOk result (λ v. read_as ⟦<BTreeMap<String, RefOr<Schema>> as Tree>⟧.kind (view tree.now) ≡ Some (⟦<BTreeMap<String, RefOr<Schema>> as Tree>⟧.doc v)) }
+    ensures err { IfErr result (Refuses (read_as ⟦<BTreeMap<String, RefOr<Schema>> as Tree>⟧.kind (view tree.now))) }
+{
+    read::read_properties(alloc, tree, readings)
+}
