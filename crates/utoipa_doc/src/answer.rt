@@ -8,9 +8,10 @@ use crate::command::Command;
 use crate::refusal::Refusal;
 use serde_json::Value;
 use std::alloc::Global;
-use utoipa_base::Tree;
 use utoipa_base::laws::stays_plain;
+use utoipa_base::{RefOr, Tree};
 use utoipa_leaf::server::Server;
+use utoipa_schema::Schema;
 
 /// The line with which the command answers a text.
 pub fn answer(alloc: Global, command: Command, text: &[u8]) -> Result<Vec<u8>, Refusal>
@@ -42,6 +43,7 @@ fn answer_to_tree(alloc: Global, command: Command, tree: &Value) -> Result<Vec<u
 {
     match command {
         Command::Server => rewritten::<Server>(alloc, tree),
+        Command::Schema => rewritten::<RefOr<Schema>>(alloc, tree),
     }
 }
 

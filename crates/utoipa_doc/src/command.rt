@@ -21,6 +21,8 @@ use std::alloc::Global;
 pub enum Command {
     /// Reads a server and writes it.
     Server,
+    /// Reads a schema, or a reference to one, and writes it.
+    Schema,
 }
 
 impl Command {
@@ -40,6 +42,7 @@ impl Command {
     {
         match word {
             "server" => Some(Command::Server),
+            "schema" => Some(Command::Schema),
             _ => None,
         }
     }

@@ -5,6 +5,7 @@ mod callers;
 mod fakes;
 mod faults;
 mod refusals;
+mod schemas;
 
 use crate::command::run;
 use std::alloc::Global;
