@@ -22,11 +22,11 @@ use Rattle.utoipa_base.proofs.WrittenMembers.{fits-part, first_refused, rows_ref
 -- ---- the first that there is
 
 -- after a first that is none comes the second
-past : (a b : Option Doc) → a ≡ None → or_else a b ≡ b
+pub past : (a b : Option Doc) → a ≡ None → or_else a b ≡ b
 past a b e = ap (λ o. or_else o b) e
 
 -- a first that there is, is taken
-taken : (a b : Option Doc) (x : Doc) → a ≡ Some x → or_else a b ≡ Some x
+pub taken : (a b : Option Doc) (x : Doc) → a ≡ Some x → or_else a b ≡ Some x
 taken a b x e = ap (λ o. or_else o b) e
 
 -- ---- schemas

@@ -129,7 +129,7 @@ schema_count-empty schema_type = refl
 schema_count-empty k = refl
 
 -- an option of what holds no schema holds none
-option_places : {X : Type 0} (f : X → Doc) → ((x : X) → schema_count (f x) ≡ 0) → (o : Option X) → schema_count (option_of f o) ≡ 0
+pub option_places : {X : Type 0} (f : X → Doc) → ((x : X) → schema_count (f x) ≡ 0) → (o : Option X) → schema_count (option_of f o) ≡ 0
 unfolding schema_count
 option_places f each None = refl
 option_places f each (Some x) = each x

@@ -5,6 +5,7 @@ mod callers;
 mod fakes;
 mod faults;
 mod refusals;
+mod schema_members;
 mod schemas;
 
 use crate::command::run;

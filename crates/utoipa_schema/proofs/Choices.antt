@@ -7,15 +7,8 @@ use Rattle.utoipa_base.specs.Choices.{schema_keywords}
 use Rattle.utoipa_base.specs.Docs.{Doc, schema_doc, flag_doc}
 use Rattle.utoipa_base.specs.Kinds.{schema, ref_or, array_items, additional_properties, named, one_of_schema, all_of_schema, any_of_schema, array_schema, object_schema}
 use Rattle.utoipa_base.specs.Reading.{reader, read, or_else, only_if}
+use Rattle.utoipa_base.proofs.Alternatives.{past, taken}
 use Rattle.utoipa_schema.specs.Choice.{may_be_object, IsNoCombination}
-
--- the first of two
-taken : (a b : Option Doc) (x : Doc) → a ≡ Some x → or_else a b ≡ Some x
-taken a b x e = ap (λ o. or_else o b) e
-
--- the second of two
-past : (a b : Option Doc) → a ≡ None → or_else a b ≡ b
-past a b e = ap (λ o. or_else o b) e
 
 -- the alternatives of a schema that is no combination
 abbrev single : Data → Option Doc

@@ -53,21 +53,21 @@ join-later rs ss d e = rw (join rs ss d, e) (later_none (fields rs d))
 
 -- ---- the parts
 
-part_fits_if : (o : Option Docs) (xs : Docs) → option_map list_doc o ≡ Some (list_doc xs) → o ≡ Some xs
-part_fits_if None xs e = cc
-part_fits_if (Some ys) xs e = cc
+fields_of_part_if : (o : Option Docs) (xs : Docs) → option_map list_doc o ≡ Some (list_doc xs) → o ≡ Some xs
+fields_of_part_if None xs e = cc
+fields_of_part_if (Some ys) xs e = cc
 
 -- the fields of a part that was read
-pub part_fits : (rows : List Row) (d : Data) (xs : Docs) → part rows d ≡ Some (list_doc xs) → fields rows d ≡ Some xs
-part_fits rows d xs e = part_fits_if (fields rows d) xs e
+pub fields_of_part : (rows : List Row) (d : Data) (xs : Docs) → part rows d ≡ Some (list_doc xs) → fields rows d ≡ Some xs
+fields_of_part rows d xs e = fields_of_part_if (fields rows d) xs e
 
-part_refused_if : (o : Option Docs) → option_map list_doc o ≡ None → o ≡ None
-part_refused_if None e = refl
-part_refused_if (Some ys) e = cc
+no_fields_of_part_if : (o : Option Docs) → option_map list_doc o ≡ None → o ≡ None
+no_fields_of_part_if None e = refl
+no_fields_of_part_if (Some ys) e = cc
 
 -- and those of one that was refused
-pub part_refused : (rows : List Row) (d : Data) → part rows d ≡ None → fields rows d ≡ None
-part_refused rows d e = part_refused_if (fields rows d) e
+pub no_fields_of_part : (rows : List Row) (d : Data) → part rows d ≡ None → fields rows d ≡ None
+no_fields_of_part rows d e = no_fields_of_part_if (fields rows d) e
 
 -- ---- trees with members
 

@@ -3,7 +3,6 @@ pub mod CopyParts
 pub mod Joins
 pub mod PlainCounts
 mod PlainParts
-pub mod PlainTables
 pub mod RestCounts
 pub mod SchemaCounts
 pub mod SchemaMembers

@@ -8,7 +8,7 @@ use Rattle.utoipa_base.specs.Values.{schema_count, docs_schema_count}
 use Rattle.utoipa_base.specs.Views.{text_of, tree_of, option_of, list_of_docs}
 use Rattle.utoipa_base.specs.declared.deprecated.Deprecated.TheVariants as deprecation
 use Rattle.utoipa_base.specs.declared.number.Number.TheVariants.{Int, UInt}
-use Rattle.utoipa_base.proofs.Places.{schema_count-text, schema_count-flag, schema_count-whole, schema_count-tree}
+use Rattle.utoipa_base.proofs.Places.{option_places, schema_count-text, schema_count-flag, schema_count-whole, schema_count-tree}
 use Rattle.utoipa_leaf_info.specs.Xml.{xml_doc}
 use Rattle.utoipa_schema_words.specs.Discriminator.{discriminator_doc}
 use Rattle.utoipa_schema_words.specs.Format.{schema_format_doc}
@@ -44,11 +44,6 @@ unfolding schema_count
 number_counts_none (Int z) = refl
 number_counts_none (UInt n) = refl
 
-option_counts_none : {X : Type 0} (f : X → Doc) → CountsNone f → (o : Option X) → schema_count (option_of f o) ≡ 0
-unfolding schema_count
-option_counts_none f each None = refl
-option_counts_none f each (Some x) = each x
-
 items_count_none : {X : Type 0} (f : X → Doc) → CountsNone f → (xs : List X) → docs_schema_count (docs_of (map f xs)) ≡ 0
 unfolding docs_schema_count
 items_count_none f each [] = refl
@@ -61,8 +56,8 @@ list_counts_none f each v = items_count_none f each v.items
 xml_counts_none : CountsNone xml_doc
 unfolding schema_count docs_schema_count
 xml_counts_none x =
-    let text = option_counts_none text_of text_counts_none in
-    let flag = option_counts_none flag_doc schema_count-flag in
+    let text = option_places text_of text_counts_none in
+    let flag = option_places flag_doc schema_count-flag in
     omega (arith, text x.name, text x.namespace, text x.prefix, text x.node_type, flag x.attribute, flag x.wrapped)
 
 -- ---- the parts
@@ -70,49 +65,49 @@ xml_counts_none x =
 pub combination_counts_none : (c : Combination) → docs_schema_count (combination_docs c) ≡ 0
 unfolding docs_schema_count
 combination_counts_none c =
-    let tree = option_counts_none tree_of tree_counts_none in
+    let tree = option_places tree_of tree_counts_none in
     omega (
       arith,
-      option_counts_none text_of text_counts_none c.description,
+      option_places text_of text_counts_none c.description,
       tree c.default,
       tree c.example,
       list_counts_none tree_of tree_counts_none c.examples,
-      option_counts_none discriminator_doc discriminator_counts_none c.discriminator,
+      option_places discriminator_doc discriminator_counts_none c.discriminator,
     )
 
 pub object_head_counts_none : (h : ObjectHead) → docs_schema_count (object_head_docs h) ≡ 0
 unfolding docs_schema_count
 object_head_counts_none h =
-    let text = option_counts_none text_of text_counts_none in
+    let text = option_places text_of text_counts_none in
     omega (
       arith,
       schema_type_counts_none h.schema_type,
       text h.title,
-      option_counts_none schema_format_doc schema_format_counts_none h.format,
+      option_places schema_format_doc schema_format_counts_none h.format,
       text h.description,
-      option_counts_none tree_of tree_counts_none h.default,
-      option_counts_none (list_of_docs tree_of) (list_counts_none tree_of tree_counts_none) h.enum_values,
+      option_places tree_of tree_counts_none h.default,
+      option_places (list_of_docs tree_of) (list_counts_none tree_of tree_counts_none) h.enum_values,
       list_counts_none text_of text_counts_none h.required,
     )
 
 pub object_annotation_counts_none : (a : ObjectAnnotations) → docs_schema_count (object_annotation_docs a) ≡ 0
 unfolding docs_schema_count
 object_annotation_counts_none a =
-    let flag = option_counts_none flag_doc schema_count-flag in
+    let flag = option_places flag_doc schema_count-flag in
     omega (
       arith,
-      option_counts_none deprecated_doc deprecated_counts_none a.deprecated,
-      option_counts_none tree_of tree_counts_none a.example,
+      option_places deprecated_doc deprecated_counts_none a.deprecated,
+      option_places tree_of tree_counts_none a.example,
       list_counts_none tree_of tree_counts_none a.examples,
       flag a.write_only,
       flag a.read_only,
-      option_counts_none xml_doc xml_counts_none a.xml,
+      option_places xml_doc xml_counts_none a.xml,
     )
 
 pub number_limit_counts_none : (l : NumberLimits) → docs_schema_count (number_limit_docs l) ≡ 0
 unfolding docs_schema_count
 number_limit_counts_none l =
-    let numeral = option_counts_none number_doc number_counts_none in
+    let numeral = option_places number_doc number_counts_none in
     omega (
       arith,
       numeral l.multiple_of,
@@ -125,12 +120,12 @@ number_limit_counts_none l =
 pub size_limit_counts_none : (l : SizeLimits) → docs_schema_count (size_limit_docs l) ≡ 0
 unfolding docs_schema_count
 size_limit_counts_none l =
-    let whole = option_counts_none whole_doc schema_count-whole in
+    let whole = option_places whole_doc schema_count-whole in
     omega (
       arith,
       whole l.max_length,
       whole l.min_length,
-      option_counts_none text_of text_counts_none l.pattern,
+      option_places text_of text_counts_none l.pattern,
       whole l.max_properties,
       whole l.min_properties,
       text_counts_none l.content_encoding,
@@ -140,16 +135,16 @@ size_limit_counts_none l =
 pub array_head_counts_none : (h : ArrayHead) → docs_schema_count (array_head_docs h) ≡ 0
 unfolding docs_schema_count
 array_head_counts_none h =
-    omega (arith, schema_type_counts_none h.schema_type, option_counts_none text_of text_counts_none h.title)
+    omega (arith, schema_type_counts_none h.schema_type, option_places text_of text_counts_none h.title)
 
 pub array_annotation_counts_none : (a : ArrayAnnotations) → docs_schema_count (array_annotation_docs a) ≡ 0
 unfolding docs_schema_count
 array_annotation_counts_none a =
-    let tree = option_counts_none tree_of tree_counts_none in
+    let tree = option_places tree_of tree_counts_none in
     omega (
       arith,
-      option_counts_none text_of text_counts_none a.description,
-      option_counts_none deprecated_doc deprecated_counts_none a.deprecated,
+      option_places text_of text_counts_none a.description,
+      option_places deprecated_doc deprecated_counts_none a.deprecated,
       tree a.example,
       list_counts_none tree_of tree_counts_none a.examples,
       tree a.default,
@@ -158,13 +153,13 @@ array_annotation_counts_none a =
 pub array_limit_counts_none : (l : ArrayLimits) → docs_schema_count (array_limit_docs l) ≡ 0
 unfolding docs_schema_count
 array_limit_counts_none l =
-    let whole = option_counts_none whole_doc schema_count-whole in
+    let whole = option_places whole_doc schema_count-whole in
     omega (
       arith,
       whole l.max_items,
       whole l.min_items,
       schema_count-flag l.unique_items,
-      option_counts_none xml_doc xml_counts_none l.xml,
+      option_places xml_doc xml_counts_none l.xml,
       text_counts_none l.content_encoding,
       text_counts_none l.content_media_type,
     )

@@ -17,6 +17,7 @@ use Rattle.utoipa_schema_words.specs.Discriminator.{discriminator_doc, discrimin
 use Rattle.utoipa_schema_words.specs.Format.{schema_format_doc, schema_format_of_kind}
 use Rattle.utoipa_schema_words.specs.Types.{schema_type_doc, schema_type_of_kind}
 use Rattle.utoipa_schema_words.specs.declared.discriminator.Discriminator.{Discriminator}
+use Rattle.utoipa_schema.specs.Choice.{content_schema_row}
 use Rattle.utoipa_schema.specs.declared.types.Array.{Array}
 use Rattle.utoipa_schema.specs.declared.types.Object.{Object}
 use Rattle.utoipa_schema.specs.declared.types.OneOf.{OneOf}
@@ -64,8 +65,7 @@ array_schema_rows =
 
 -- the member that holds the schema of a text's content
 abbrev pub content_schema_rows : List Row
-content_schema_rows =
-    row (codes "contentSchema") optional (ref_or schema) ∷ []
+content_schema_rows = content_schema_row ∷ []
 
 -- ---- a combination's members after `type` and `title`
 

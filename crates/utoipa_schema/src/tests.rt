@@ -1,15 +1,16 @@
-// Schemas as their builders make them, read back by their fields, where memory is ample.
+// Schemas as their builders make them, as they are written, and as they are read, where memory is ample.
 use crate::types::{Object, Schema};
 use serde_json::Value;
 use std::alloc::Global;
 use std::test::Fail;
-use utoipa_base::{Extensions, RefOr};
+use utoipa_base::{Extensions, RefOr, Tree};
 use utoipa_schema_words::{SchemaType, TypeWord};
 
 mod build_array;
 mod build_combination;
 mod build_conversion;
 mod build_object;
+mod depth;
 mod read;
 mod write;
 
@@ -17,66 +18,32 @@ fn text(alloc: Global, word: &str) -> Result<String, Fail> {
     Ok(String::from_str(alloc, word)?)
 }
 
-fn is_text(text: &Option<String>, word: &str) -> bool {
-    match text {
-        Some(text) => text.as_str() == word,
-        None => false,
-    }
+// The JSON text of what a value is written as.
+fn written<T: Tree>(alloc: Global, value: &T) -> Result<String, Fail> {
+    Ok(value.to_value(alloc)?.to_string(alloc)?)
 }
 
-fn two_values(alloc: Global) -> Result<Vec<Value>, Fail> {
-    Ok(vec![in alloc; Value::from(1u64), Value::from(2u64)]?)
+fn two_values(alloc: Global) -> Result<std::vec::IntoIter<Value>, Fail> {
+    let values = vec![in alloc; Value::from(1u64), Value::from(2u64)]?;
+    Ok(values.into_iter())
 }
 
-fn is_number(value: Option<&Value>, number: u64) -> bool {
-    match value {
-        Some(value) => value.as_u64() == Some(number),
-        None => false,
-    }
-}
-
-fn are_two_values(values: &Vec<Value>) -> bool {
-    values.len() == 2 && is_number(values.first(), 1) && is_number(values.last(), 2)
-}
-
+// The extension `x-some-extension` with the text `value`.
 fn extension(alloc: Global) -> Result<Option<Extensions>, Fail> {
-    let mut extensions = Extensions::new(alloc);
-    drop(extensions.insert(text(alloc, "x-a")?, Value::from(1u64))?);
-    Ok(Some(extensions))
+    let value = Value::String(text(alloc, "value")?);
+    let builder = Extensions::builder(alloc);
+    let builder = builder.add(alloc, text(alloc, "x-some-extension")?, value)?;
+    Ok(Some(builder.build()))
+}
+
+fn single(word: TypeWord) -> SchemaType {
+    SchemaType::Single(word)
 }
 
 fn schema_of(alloc: Global, word: TypeWord) -> Schema {
-    Schema::Object(Object::with_type(alloc, SchemaType::Single(word)))
+    Schema::Object(Object::with_type(alloc, single(word)))
 }
 
 fn place_of(alloc: Global, word: TypeWord) -> RefOr<Schema> {
     RefOr::T(schema_of(alloc, word))
-}
-
-fn is_word(types: &SchemaType, word: TypeWord) -> bool {
-    match types {
-        SchemaType::Single(single) => *single == word,
-        _ => false,
-    }
-}
-
-fn is_schema_of(schema: &Schema, word: TypeWord) -> bool {
-    match schema {
-        Schema::Object(object) => is_word(&object.schema_type, word),
-        _ => false,
-    }
-}
-
-fn is_place_of(place: &RefOr<Schema>, word: TypeWord) -> bool {
-    match place {
-        RefOr::T(schema) => is_schema_of(schema, word),
-        RefOr::Ref(_) => false,
-    }
-}
-
-fn is_reference_to(place: &RefOr<Schema>, location: &str) -> bool {
-    match place {
-        RefOr::T(_) => false,
-        RefOr::Ref(reference) => reference.ref_location.as_str() == location,
-    }
 }

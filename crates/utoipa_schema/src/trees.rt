@@ -1,11 +1,12 @@
 //! Schemas are read from trees and written as trees.
 //!
 //! A tree that fits no alternative of a schema is refused as `Alternative`, whatever failed inside.
-ghost use Rattle.std.specs.Prelude.{◌≡◌, Some, IfOk, IfErr, refl, true, false};
+ghost use Rattle.std.specs.Prelude.{◌≡◌, ◌≤◌, ◌<◌, ◌+◌, Some, IfOk, IfErr, refl, true, false};
 ghost use Rattle.serde_json.specs.View.{view};
 ghost use Rattle.utoipa_base.specs.Faults.{Refuses};
 ghost use Rattle.utoipa_base.specs.Reading.{read as read_as};
 ghost use Rattle.utoipa_base.specs.Kinds.{schema, array_items, additional_properties, named, one_of_schema, all_of_schema, any_of_schema, array_schema, object_schema};
+ghost use Rattle.utoipa_base.specs.Values.{values, schema_count};
 ghost use Rattle.utoipa_schema.specs.Docs.{schema_doc, additional_properties_doc, array_items_doc, one_of_doc, all_of_doc, any_of_doc, array_doc, object_doc};
 ghost use Rattle.utoipa_schema.specs.OfKind.{schema_of_kind, additional_properties_of_kind, array_items_of_kind, one_of_of_kind, all_of_of_kind, any_of_of_kind, array_of_kind, object_of_kind};
 
@@ -281,6 +282,10 @@ pub fn read_ref_or_schema(
 ) -> Result<RefOr<Schema>, ReadFault>
     ensures ok { IfOk result (λ v. read_as ⟦<RefOr<Schema> as Tree>⟧.kind (view tree.now) ≡ Some (⟦<RefOr<Schema> as Tree>⟧.doc v)) }
     ensures err { IfErr result (Refuses (read_as ⟦<RefOr<Schema> as Tree>⟧.kind (view tree.now))) }
+    ensures grows { readings.old ≤ readings.new }
+    ensures at_most { readings.new ≤ readings.old + values (view tree.now) }
+    ensures at_least { IfOk result (λ v. readings.new < u64.MAX
+        → readings.old + schema_count (⟦<RefOr<Schema> as Tree>⟧.doc v) ≤ readings.new) }
 {
     read::read_place(alloc, tree, readings)
 }
@@ -293,6 +298,10 @@ pub fn read_schema_list(
 ) -> Result<Vec<RefOr<Schema>>, ReadFault>
     ensures ok { IfOk result (λ v. read_as ⟦<Vec<RefOr<Schema>> as Tree>⟧.kind (view tree.now) ≡ Some (⟦<Vec<RefOr<Schema>> as Tree>⟧.doc v)) }
     ensures err { IfErr result (Refuses (read_as ⟦<Vec<RefOr<Schema>> as Tree>⟧.kind (view tree.now))) }
+    ensures grows { readings.old ≤ readings.new }
+    ensures at_most { readings.new ≤ readings.old + values (view tree.now) }
+    ensures at_least { IfOk result (λ v. readings.new < u64.MAX
+        → readings.old + schema_count (⟦<Vec<RefOr<Schema>> as Tree>⟧.doc v) ≤ readings.new) }
 {
     read::read_places(alloc, tree, readings)
 }
@@ -305,6 +314,10 @@ pub fn read_schema_map(
 ) -> Result<BTreeMap<String, RefOr<Schema>>, ReadFault>
     ensures ok { IfOk result (λ v. read_as ⟦<BTreeMap<String, RefOr<Schema>> as Tree>⟧.kind (view tree.now) ≡ Some (⟦<BTreeMap<String, RefOr<Schema>> as Tree>⟧.doc v)) }
     ensures err { IfErr result (Refuses (read_as ⟦<BTreeMap<String, RefOr<Schema>> as Tree>⟧.kind (view tree.now))) }
+    ensures grows { readings.old ≤ readings.new }
+    ensures at_most { readings.new ≤ readings.old + values (view tree.now) }
+    ensures at_least { IfOk result (λ v. readings.new < u64.MAX
+        → readings.old + schema_count (⟦<BTreeMap<String, RefOr<Schema>> as Tree>⟧.doc v) ≤ readings.new) }
 {
     read::read_properties(alloc, tree, readings)
 }

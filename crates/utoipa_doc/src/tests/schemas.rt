@@ -135,21 +135,131 @@ fn other_trees_are_no_schemas(rt: HostRuntime) -> Result<(), Fail> {
         (b"", "refused: text\n"),
     ];
     for (text, line) in cases {
-        let ran = run_words(rt.alloc(), &["schema"], text)?;
-        assert_eq!(rt; ran.status, 1, "at {line}");
-        assert_eq!(rt; ran.answer.len(), 0, "at {line}");
-        assert_eq!(rt; ran.told.as_slice(), line.as_bytes());
+        is_refused_as(&rt, text, line)?;
     }
     Ok(())
 }
 
-/// Each text is a schema, which is written as the line beside it.
-fn are_answered(rt: &(impl Abort + AllocGlobal), cases: &[(&str, &str)]) -> Result<(), Fail> {
+#[test]
+fn an_alternative_that_its_last_row_refuses_gives_way(rt: HostRuntime) -> Result<(), Fail> {
+    let cases = [
+        (
+            r#"{"oneOf":[],"writeOnly":5,"allOf":[]}"#,
+            "{\"allOf\":[]}\n",
+        ),
+        (
+            r#"{"oneOf":[],"allOf":[{}],"x-a":1,"readOnly":null,"writeOnly":"no"}"#,
+            "{\"allOf\":[{}],\"x-a\":1}\n",
+        ),
+        // Both combinations have a discriminator; the title is the last row that the next one does not have.
+        (r#"{"allOf":[],"title":5,"anyOf":[]}"#, "{\"anyOf\":[]}\n"),
+        (
+            r#"{"allOf":[],"discriminator":5,"type":"array","items":{}}"#,
+            "{\"items\":{},\"type\":\"array\"}\n",
+        ),
+        (
+            r#"{"anyOf":[],"discriminator":{},"type":"array","items":false}"#,
+            "{\"items\":false,\"type\":\"array\"}\n",
+        ),
+        (
+            r#"{"type":"array","items":false,"uniqueItems":"yes","title":"t"}"#,
+            "{\"title\":\"t\",\"type\":\"array\"}\n",
+        ),
+        // Without `type`, an object may name none of the members that decide.
+        (
+            r#"{"title":"t","prefixItems":5,"uniqueItems":1}"#,
+            "{\"title\":\"t\"}\n",
+        ),
+    ];
+    are_answered(&rt, &cases)
+}
+
+#[test]
+fn a_shared_row_refuses_every_alternative(rt: HostRuntime) -> Result<(), Fail> {
+    let cases: [&[u8]; 5] = [
+        b"{\"type\":\"array\",\"items\":false,\"contentSchema\":5}",
+        b"{\"type\":\"string\",\"contentSchema\":5}",
+        b"{\"contentSchema\":5}",
+        b"{\"oneOf\":[],\"writeOnly\":5}",
+        b"{\"anyOf\":[],\"discriminator\":5}",
+    ];
+    for text in cases {
+        is_refused_as(&rt, text, "refused: alternative\n")?;
+    }
+    Ok(())
+}
+
+#[test]
+fn additional_properties_are_a_flag_a_reference_or_a_schema(rt: HostRuntime) -> Result<(), Fail> {
+    let cases = [
+        (
+            r#"{"additionalProperties":false}"#,
+            "{\"additionalProperties\":false}\n",
+        ),
+        (
+            r#"{"additionalProperties":true}"#,
+            "{\"additionalProperties\":true}\n",
+        ),
+        (
+            r##"{"additionalProperties":{"$ref":"#/a","x":1}}"##,
+            "{\"additionalProperties\":{\"$ref\":\"#/a\"}}\n",
+        ),
+        (
+            r#"{"additionalProperties":{"oneOf":[]}}"#,
+            "{\"additionalProperties\":{\"oneOf\":[]}}\n",
+        ),
+    ];
+    are_answered(&rt, &cases)?;
+    is_refused_as(
+        &rt,
+        b"{\"additionalProperties\":5}",
+        "refused: alternative\n",
+    )
+}
+
+#[test]
+fn items_that_are_a_list_or_true_are_none(rt: HostRuntime) -> Result<(), Fail> {
+    let cases = [
+        (
+            r#"{"items":false,"type":"array"}"#,
+            "{\"items\":false,\"type\":\"array\"}\n",
+        ),
+        (
+            r##"{"items":{"$ref":"#/a"},"type":"array"}"##,
+            "{\"items\":{\"$ref\":\"#/a\"},\"type\":\"array\"}\n",
+        ),
+        (r#"{"items":true,"type":"array"}"#, "{\"type\":\"array\"}\n"),
+        (
+            r#"{"items":[{},{}],"type":"array"}"#,
+            "{\"type\":\"array\"}\n",
+        ),
+    ];
+    are_answered(&rt, &cases)
+}
+
+// Each text is a schema, which is written as the line beside it.
+pub(super) fn are_answered(
+    rt: &(impl Abort + AllocGlobal),
+    cases: &[(&str, &str)],
+) -> Result<(), Fail> {
     for (text, line) in cases {
         let ran = run_words(rt.alloc(), &["schema"], text.as_bytes())?;
         assert_eq!(rt; ran.answer.as_slice(), line.as_bytes(), "of {text}");
         assert_eq!(rt; ran.told.len(), 0, "of {text}");
         assert_eq!(rt; ran.status, 0, "of {text}");
     }
+    Ok(())
+}
+
+// The text is no schema, and only the line is told.
+pub(super) fn is_refused_as(
+    rt: &(impl Abort + AllocGlobal),
+    text: &[u8],
+    line: &str,
+) -> Result<(), Fail> {
+    let ran = run_words(rt.alloc(), &["schema"], text)?;
+    assert_eq!(rt; ran.status, 1, "at {line}");
+    assert_eq!(rt; ran.answer.len(), 0, "at {line}");
+    assert_eq!(rt; ran.told.as_slice(), line.as_bytes());
     Ok(())
 }

@@ -2,7 +2,7 @@ use crate::example::{Example, ExampleBuilder};
 use crate::tests::{copied, extension, rewritten, text, wanted, written};
 use serde_json::Value;
 use std::test::Fail;
-use utoipa_base::RefOr;
+use utoipa_base::{RefOr, Tree};
 
 #[test]
 fn an_example_is_written(rt: HostRuntime) -> Result<(), Fail> {
@@ -90,5 +90,14 @@ fn what_is_no_reference_is_an_example(rt: HostRuntime) -> Result<(), Fail> {
     );
     let neither = "{\"$ref\":\"#/a\",\"description\":null}";
     assert_eq!(rt; wanted::<RefOr<Example>>(alloc, neither)?, Some("text"));
+    Ok(())
+}
+
+#[test]
+fn a_reference_to_an_example_counts_no_schema(rt: HostRuntime) -> Result<(), Fail> {
+    let tree = Value::from_str(rt.alloc(), r##"{"$ref":"#/a"}"##)?;
+    let counted = RefOr::<Example>::from_value_counted(rt.alloc(), &tree);
+    assert!(rt; counted.outcome.is_ok());
+    assert_eq!(rt; counted.readings, 0);
     Ok(())
 }

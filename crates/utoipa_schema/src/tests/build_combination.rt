@@ -1,45 +1,33 @@
-// Combinations of schemas.
+// Combinations of schemas as they are built, by what they are written as.
 use crate::all_of::AllOfBuilder;
 use crate::any_of::AnyOfBuilder;
 use crate::one_of::OneOfBuilder;
-use crate::tests::{
-    are_two_values, extension, is_number, is_place_of, is_text, is_word, place_of, text, two_values,
-};
-use crate::types::{AllOf, AnyOf, Array, ArrayItems, OneOf, Schema};
+use crate::tests::{extension, place_of, single, text, two_values, written};
+use crate::types::{AllOf, AnyOf, OneOf};
 use serde_json::Value;
 use std::alloc::Global;
 use std::collections::BTreeMap;
 use std::test::Fail;
-use utoipa_base::RefOr;
-use utoipa_schema_words::{Discriminator, SchemaType, TypeWord};
+use utoipa_schema_words::{Discriminator, TypeWord};
 
-fn discriminator(alloc: Global) -> Result<Discriminator, Fail> {
-    Ok(Discriminator {
+fn discriminator(alloc: Global) -> Result<Option<Discriminator>, Fail> {
+    Ok(Some(Discriminator {
         property_name: text(alloc, "kind")?,
         mapping: BTreeMap::new(alloc),
         extensions: None,
-    })
-}
-
-fn is_first_of(items: &Vec<RefOr<Schema>>, word: TypeWord) -> bool {
-    match items.first() {
-        Some(place) => is_place_of(place, word),
-        None => false,
-    }
+    }))
 }
 
 #[test]
-fn combinations_begin_with_no_schema(rt: HostRuntime) {
+fn a_combination_begins_with_no_schema(rt: HostRuntime) -> Result<(), Fail> {
     let alloc = rt.alloc();
-    let one_of = OneOf::new(alloc);
-    assert!(rt; one_of.items.is_empty());
-    assert!(rt; matches!(&one_of.schema_type, SchemaType::AnyValue));
-    let all_of = AllOf::new(alloc);
-    assert!(rt; all_of.items.is_empty());
-    assert!(rt; matches!(&all_of.schema_type, SchemaType::AnyValue));
-    let any_of = AnyOf::new(alloc);
-    assert!(rt; any_of.items.is_empty());
-    assert!(rt; matches!(&any_of.schema_type, SchemaType::AnyValue));
+    let one_of = written(alloc, &OneOf::new(alloc))?;
+    assert_eq!(rt; one_of.as_str(), r#"{"oneOf":[]}"#);
+    let all_of = written(alloc, &AllOf::new(alloc))?;
+    assert_eq!(rt; all_of.as_str(), r#"{"allOf":[]}"#);
+    let any_of = written(alloc, &AnyOf::new(alloc))?;
+    assert_eq!(rt; any_of.as_str(), r#"{"anyOf":[]}"#);
+    Ok(())
 }
 
 #[test]
@@ -48,13 +36,13 @@ fn one_of_is_built_of_its_schemas(rt: HostRuntime) -> Result<(), Fail> {
     let combination = OneOf::builder(alloc)
         .item(place_of(alloc, TypeWord::String))?
         .item(place_of(alloc, TypeWord::Integer))?
-        .schema_type(SchemaType::Single(TypeWord::Object))
-        .discriminator(Some(discriminator(alloc)?))
+        .schema_type(single(TypeWord::Object))
+        .discriminator(discriminator(alloc)?)
         .build();
-    assert_eq!(rt; combination.items.len(), 2);
-    assert!(rt; is_first_of(&combination.items, TypeWord::String));
-    assert!(rt; is_word(&combination.schema_type, TypeWord::Object));
-    assert!(rt; combination.discriminator.is_some());
+    assert_eq!(rt;
+        written(alloc, &combination)?.as_str(),
+        r#"{"discriminator":{"propertyName":"kind"},"oneOf":[{"type":"string"},{"type":"integer"}],"type":"object"}"#
+    );
     Ok(())
 }
 
@@ -64,11 +52,12 @@ fn one_of_is_built_of_its_values(rt: HostRuntime) -> Result<(), Fail> {
     let combination = OneOfBuilder::new(alloc)
         .default(Some(Value::from(3u64)))
         .example(Some(Value::from(4u64)))
-        .examples(alloc, two_values(alloc)?.into_iter())?
+        .examples(alloc, two_values(alloc)?)?
         .build();
-    assert!(rt; is_number(combination.default.as_ref(), 3));
-    assert!(rt; is_number(combination.example.as_ref(), 4));
-    assert!(rt; are_two_values(&combination.examples));
+    assert_eq!(rt;
+        written(alloc, &combination)?.as_str(),
+        r#"{"default":3,"example":4,"examples":[1,2],"oneOf":[]}"#
+    );
     Ok(())
 }
 
@@ -81,13 +70,10 @@ fn one_of_is_built_of_what_else_it_has(rt: HostRuntime) -> Result<(), Fail> {
         .read_only(true)
         .write_only(false)
         .extensions(extension(alloc)?);
-    let combination = OneOf::from(builder);
-    assert!(rt; is_text(&combination.title, "t"));
-    assert!(rt; is_text(&combination.description, "d"));
-    assert_eq!(rt; combination.read_only, Some(true));
-    assert_eq!(rt; combination.write_only, Some(false));
-    assert!(rt; combination.extensions.is_some());
-    assert!(rt; combination.items.is_empty());
+    assert_eq!(rt;
+        written(alloc, &OneOf::from(builder))?.as_str(),
+        r#"{"description":"d","oneOf":[],"readOnly":true,"title":"t","writeOnly":false,"x-some-extension":"value"}"#
+    );
     Ok(())
 }
 
@@ -97,13 +83,13 @@ fn all_of_is_built_of_its_schemas(rt: HostRuntime) -> Result<(), Fail> {
     let combination = AllOf::builder(alloc)
         .item(place_of(alloc, TypeWord::String))?
         .item(place_of(alloc, TypeWord::Integer))?
-        .schema_type(SchemaType::Single(TypeWord::Object))
-        .discriminator(Some(discriminator(alloc)?))
+        .schema_type(single(TypeWord::Object))
+        .discriminator(discriminator(alloc)?)
         .build();
-    assert_eq!(rt; combination.items.len(), 2);
-    assert!(rt; is_first_of(&combination.items, TypeWord::String));
-    assert!(rt; is_word(&combination.schema_type, TypeWord::Object));
-    assert!(rt; combination.discriminator.is_some());
+    assert_eq!(rt;
+        written(alloc, &combination)?.as_str(),
+        r#"{"allOf":[{"type":"string"},{"type":"integer"}],"discriminator":{"propertyName":"kind"},"type":"object"}"#
+    );
     Ok(())
 }
 
@@ -113,11 +99,12 @@ fn all_of_is_built_of_its_values(rt: HostRuntime) -> Result<(), Fail> {
     let combination = AllOfBuilder::new(alloc)
         .default(Some(Value::from(3u64)))
         .example(Some(Value::from(4u64)))
-        .examples(alloc, two_values(alloc)?.into_iter())?
+        .examples(alloc, two_values(alloc)?)?
         .build();
-    assert!(rt; is_number(combination.default.as_ref(), 3));
-    assert!(rt; is_number(combination.example.as_ref(), 4));
-    assert!(rt; are_two_values(&combination.examples));
+    assert_eq!(rt;
+        written(alloc, &combination)?.as_str(),
+        r#"{"allOf":[],"default":3,"example":4,"examples":[1,2]}"#
+    );
     Ok(())
 }
 
@@ -128,11 +115,10 @@ fn all_of_is_built_of_what_else_it_has(rt: HostRuntime) -> Result<(), Fail> {
         .title(Some(text(alloc, "t")?))
         .description(Some(text(alloc, "d")?))
         .extensions(extension(alloc)?);
-    let combination = AllOf::from(builder);
-    assert!(rt; is_text(&combination.title, "t"));
-    assert!(rt; is_text(&combination.description, "d"));
-    assert!(rt; combination.extensions.is_some());
-    assert!(rt; combination.items.is_empty());
+    assert_eq!(rt;
+        written(alloc, &AllOf::from(builder))?.as_str(),
+        r#"{"allOf":[],"description":"d","title":"t","x-some-extension":"value"}"#
+    );
     Ok(())
 }
 
@@ -142,13 +128,13 @@ fn any_of_is_built_of_its_schemas(rt: HostRuntime) -> Result<(), Fail> {
     let combination = AnyOf::builder(alloc)
         .item(place_of(alloc, TypeWord::String))?
         .item(place_of(alloc, TypeWord::Integer))?
-        .schema_type(SchemaType::Single(TypeWord::Object))
-        .discriminator(Some(discriminator(alloc)?))
+        .schema_type(single(TypeWord::Object))
+        .discriminator(discriminator(alloc)?)
         .build();
-    assert_eq!(rt; combination.items.len(), 2);
-    assert!(rt; is_first_of(&combination.items, TypeWord::String));
-    assert!(rt; is_word(&combination.schema_type, TypeWord::Object));
-    assert!(rt; combination.discriminator.is_some());
+    assert_eq!(rt;
+        written(alloc, &combination)?.as_str(),
+        r#"{"anyOf":[{"type":"string"},{"type":"integer"}],"discriminator":{"propertyName":"kind"},"type":"object"}"#
+    );
     Ok(())
 }
 
@@ -158,11 +144,12 @@ fn any_of_is_built_of_its_values(rt: HostRuntime) -> Result<(), Fail> {
     let combination = AnyOfBuilder::new(alloc)
         .default(Some(Value::from(3u64)))
         .example(Some(Value::from(4u64)))
-        .examples(alloc, two_values(alloc)?.into_iter())?
+        .examples(alloc, two_values(alloc)?)?
         .build();
-    assert!(rt; is_number(combination.default.as_ref(), 3));
-    assert!(rt; is_number(combination.example.as_ref(), 4));
-    assert!(rt; are_two_values(&combination.examples));
+    assert_eq!(rt;
+        written(alloc, &combination)?.as_str(),
+        r#"{"anyOf":[],"default":3,"example":4,"examples":[1,2]}"#
+    );
     Ok(())
 }
 
@@ -172,10 +159,10 @@ fn any_of_is_built_of_what_else_it_has(rt: HostRuntime) -> Result<(), Fail> {
     let builder = AnyOfBuilder::from(AnyOf::with_capacity(alloc, 2)?)
         .description(Some(text(alloc, "d")?))
         .extensions(extension(alloc)?);
-    let combination = AnyOf::from(builder);
-    assert!(rt; is_text(&combination.description, "d"));
-    assert!(rt; combination.extensions.is_some());
-    assert!(rt; combination.items.is_empty());
+    assert_eq!(rt;
+        written(alloc, &AnyOf::from(builder))?.as_str(),
+        r#"{"anyOf":[],"description":"d","x-some-extension":"value"}"#
+    );
     Ok(())
 }
 
@@ -183,17 +170,19 @@ fn any_of_is_built_of_what_else_it_has(rt: HostRuntime) -> Result<(), Fail> {
 fn an_array_is_made_of_each_combination(rt: HostRuntime) -> Result<(), Fail> {
     let alloc = rt.alloc();
     let one_of = OneOf::builder(alloc).to_array_builder(alloc)?.build();
-    assert!(rt; matches!(items_of(&one_of), Some(RefOr::T(Schema::OneOf(_)))));
+    assert_eq!(rt;
+        written(alloc, &one_of)?.as_str(),
+        r#"{"items":{"oneOf":[]},"type":"array"}"#
+    );
     let all_of = AllOf::builder(alloc).to_array_builder(alloc)?.build();
-    assert!(rt; matches!(items_of(&all_of), Some(RefOr::T(Schema::AllOf(_)))));
+    assert_eq!(rt;
+        written(alloc, &all_of)?.as_str(),
+        r#"{"items":{"allOf":[]},"type":"array"}"#
+    );
     let any_of = AnyOf::builder(alloc).to_array_builder(alloc)?.build();
-    assert!(rt; matches!(items_of(&any_of), Some(RefOr::T(Schema::AnyOf(_)))));
+    assert_eq!(rt;
+        written(alloc, &any_of)?.as_str(),
+        r#"{"items":{"anyOf":[]},"type":"array"}"#
+    );
     Ok(())
-}
-
-fn items_of(array: &Array) -> Option<&RefOr<Schema>> {
-    match &array.items {
-        ArrayItems::RefOrSchema(boxed) => Some(&**boxed),
-        ArrayItems::False => None,
-    }
 }

@@ -1,17 +1,21 @@
 // Conversions between schemas and what holds them.
 use crate::conversions::schema_from_ref_or;
-use crate::tests::{is_place_of, is_reference_to, is_schema_of, place_of, schema_of, text};
+use crate::tests::{place_of, schema_of, single, text, written};
 use crate::types::{AdditionalProperties, AllOf, AnyOf, Array, Object, OneOf, Schema};
 use std::test::Fail;
 use utoipa_base::{Ref, RefOr};
-use utoipa_schema_words::{SchemaType, TypeWord};
+use utoipa_schema_words::TypeWord;
 
 #[test]
-fn a_schema_is_taken_out_of_its_place(rt: HostRuntime) {
-    match schema_from_ref_or(place_of(rt.alloc(), TypeWord::String)) {
-        Ok(schema) => assert!(rt; is_schema_of(&schema, TypeWord::String)),
+fn a_schema_is_taken_out_of_its_place(rt: HostRuntime) -> Result<(), Fail> {
+    let alloc = rt.alloc();
+    match schema_from_ref_or(place_of(alloc, TypeWord::String)) {
+        Ok(schema) => {
+            assert_eq!(rt; written(alloc, &schema)?.as_str(), r#"{"type":"string"}"#);
+        }
         Err(_) => assert!(rt; false),
     }
+    Ok(())
 }
 
 #[test]
@@ -53,60 +57,50 @@ fn each_builder_makes_a_schema(rt: HostRuntime) -> Result<(), Fail> {
 #[test]
 fn a_schema_stands_where_a_reference_could(rt: HostRuntime) -> Result<(), Fail> {
     let alloc = rt.alloc();
-    let object = RefOr::from(Object::with_type(alloc, SchemaType::Single(TypeWord::Null)));
-    assert!(rt; is_place_of(&object, TypeWord::Null));
+    let object = RefOr::from(Object::with_type(alloc, single(TypeWord::Null)));
+    assert_eq!(rt; written(alloc, &object)?.as_str(), r#"{"type":"null"}"#);
     let array = RefOr::from(Array::new(alloc, place_of(alloc, TypeWord::String))?);
-    assert!(rt; matches!(&array, RefOr::T(Schema::Array(_))));
+    assert_eq!(rt;
+        written(alloc, &array)?.as_str(),
+        r#"{"items":{"type":"string"},"type":"array"}"#
+    );
     Ok(())
 }
 
 #[test]
 fn a_built_schema_stands_where_a_reference_could(rt: HostRuntime) -> Result<(), Fail> {
     let alloc = rt.alloc();
-    assert!(rt; is_place_of(&RefOr::from(Object::builder(alloc)), TypeWord::Object));
-    assert!(rt;
-        matches!(
-            &RefOr::from(Array::builder(alloc)?),
-            RefOr::T(Schema::Array(_))
-        )
-    );
-    assert!(rt;
-        matches!(
-            &RefOr::from(OneOf::builder(alloc)),
-            RefOr::T(Schema::OneOf(_))
-        )
-    );
-    assert!(rt;
-        matches!(
-            &RefOr::from(AllOf::builder(alloc)),
-            RefOr::T(Schema::AllOf(_))
-        )
-    );
-    assert!(rt;
-        matches!(
-            &RefOr::from(AnyOf::builder(alloc)),
-            RefOr::T(Schema::AnyOf(_))
-        )
-    );
+    let object = written(alloc, &RefOr::from(Object::builder(alloc)))?;
+    assert_eq!(rt; object.as_str(), r#"{"type":"object"}"#);
+    let array = written(alloc, &RefOr::from(Array::builder(alloc)?))?;
+    assert_eq!(rt; array.as_str(), r#"{"items":{},"type":"array"}"#);
     Ok(())
 }
 
-fn place_in(additional: &AdditionalProperties<Schema>) -> Option<&RefOr<Schema>> {
-    match additional {
-        AdditionalProperties::RefOr(place) => Some(place),
-        AdditionalProperties::FreeForm(_) => None,
-    }
+#[test]
+fn a_built_combination_stands_where_a_reference_could(rt: HostRuntime) -> Result<(), Fail> {
+    let alloc = rt.alloc();
+    let one_of = written(alloc, &RefOr::from(OneOf::builder(alloc)))?;
+    assert_eq!(rt; one_of.as_str(), r#"{"oneOf":[]}"#);
+    let all_of = written(alloc, &RefOr::from(AllOf::builder(alloc)))?;
+    assert_eq!(rt; all_of.as_str(), r#"{"allOf":[]}"#);
+    let any_of = written(alloc, &RefOr::from(AnyOf::builder(alloc)))?;
+    assert_eq!(rt; any_of.as_str(), r#"{"anyOf":[]}"#);
+    Ok(())
 }
 
 #[test]
 fn additional_properties_are_of_what_is_built(rt: HostRuntime) -> Result<(), Fail> {
     let alloc = rt.alloc();
     let object = AdditionalProperties::from(Object::builder(alloc));
-    assert!(rt; matches!(place_in(&object), Some(RefOr::T(Schema::Object(_)))));
+    assert_eq!(rt; written(alloc, &object)?.as_str(), r#"{"type":"object"}"#);
     let array = AdditionalProperties::from(Array::builder(alloc)?);
-    assert!(rt; matches!(place_in(&array), Some(RefOr::T(Schema::Array(_)))));
+    assert_eq!(rt;
+        written(alloc, &array)?.as_str(),
+        r#"{"items":{},"type":"array"}"#
+    );
     let all_of = AdditionalProperties::from(AllOf::builder(alloc));
-    assert!(rt; matches!(place_in(&all_of), Some(RefOr::T(Schema::AllOf(_)))));
+    assert_eq!(rt; written(alloc, &all_of)?.as_str(), r#"{"allOf":[]}"#);
     Ok(())
 }
 
@@ -114,15 +108,9 @@ fn additional_properties_are_of_what_is_built(rt: HostRuntime) -> Result<(), Fai
 fn additional_properties_are_of_a_schema(rt: HostRuntime) -> Result<(), Fail> {
     let alloc = rt.alloc();
     let schema = AdditionalProperties::from(schema_of(alloc, TypeWord::String));
-    match place_in(&schema) {
-        Some(place) => assert!(rt; is_place_of(place, TypeWord::String)),
-        None => assert!(rt; false),
-    }
-    let given = AdditionalProperties::from(place_of(alloc, TypeWord::Integer));
-    match place_in(&given) {
-        Some(place) => assert!(rt; is_place_of(place, TypeWord::Integer)),
-        None => assert!(rt; false),
-    }
+    assert_eq!(rt; written(alloc, &schema)?.as_str(), r#"{"type":"string"}"#);
+    let place = AdditionalProperties::from(place_of(alloc, TypeWord::Integer));
+    assert_eq!(rt; written(alloc, &place)?.as_str(), r#"{"type":"integer"}"#);
     Ok(())
 }
 
@@ -130,14 +118,9 @@ fn additional_properties_are_of_a_schema(rt: HostRuntime) -> Result<(), Fail> {
 fn additional_properties_are_of_a_reference(rt: HostRuntime) -> Result<(), Fail> {
     let alloc = rt.alloc();
     let reference = AdditionalProperties::from(Ref::new(alloc, text(alloc, "#/a")?));
-    match place_in(&reference) {
-        Some(place) => assert!(rt; is_reference_to(place, "#/a")),
-        None => assert!(rt; false),
-    }
-    let built = AdditionalProperties::from(Ref::builder(alloc).ref_location(text(alloc, "#/b")?));
-    match place_in(&built) {
-        Some(place) => assert!(rt; is_reference_to(place, "#/b")),
-        None => assert!(rt; false),
-    }
+    assert_eq!(rt; written(alloc, &reference)?.as_str(), r##"{"$ref":"#/a"}"##);
+    let builder = Ref::builder(alloc).ref_location(text(alloc, "#/b")?);
+    let built = AdditionalProperties::from(builder);
+    assert_eq!(rt; written(alloc, &built)?.as_str(), r##"{"$ref":"#/b"}"##);
     Ok(())
 }

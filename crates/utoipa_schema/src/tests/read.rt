@@ -1,9 +1,12 @@
 // Schemas that are read, and how many schema readings that takes.
+use crate::tests::written;
+use crate::trees::{read_ref_or_schema, read_schema_list, read_schema_map};
 use crate::types::Schema;
 use serde_json::Value;
 use std::alloc::Global;
 use std::test::Fail;
-use utoipa_base::{ReadFault, RefOr, Tree};
+use utoipa_base::{ReadFault, Readings, RefOr, Tree};
+use utoipa_schema_words::{SchemaType, TypeWord};
 
 // The schema readings of a text as a type, whether it is read or refused.
 fn readings<T: Tree>(alloc: Global, json: &str) -> Result<u64, Fail> {
@@ -48,10 +51,42 @@ fn a_refusal_takes_no_more_readings_than_values(rt: HostRuntime) -> Result<(), F
 }
 
 #[test]
+fn an_array_that_does_not_fit_is_an_object(rt: HostRuntime) -> Result<(), Fail> {
+    let tree = Value::from_str(rt.alloc(), r#"{"type":"array","items":{"type":5}}"#)?;
+    let is_object_of_array = match Schema::from_value(rt.alloc(), &tree)? {
+        Schema::Object(object) => match object.schema_type {
+            SchemaType::Single(word) => word == TypeWord::Array,
+            _ => false,
+        },
+        _ => false,
+    };
+    assert!(rt; is_object_of_array);
+    Ok(())
+}
+
+#[test]
 fn a_combination_leaves_other_members_unread(rt: HostRuntime) -> Result<(), Fail> {
     let json = r#"{"type":"object","oneOf":[{},{}],"properties":{"p":{}}}"#;
     let count = readings::<Schema>(rt.alloc(), json)?;
     assert!(rt; 3 <= count && count <= 7);
+    Ok(())
+}
+
+#[test]
+fn the_group_reads_as_the_generic_types_do(rt: HostRuntime) -> Result<(), Fail> {
+    let alloc = rt.alloc();
+    let mut readings = Readings::new();
+    let reference = Value::from_str(alloc, r##"{"$ref":"#/a"}"##)?;
+    let place = read_ref_or_schema(alloc, &reference, &mut readings)?;
+    assert_eq!(rt; written(alloc, &place)?.as_str(), r##"{"$ref":"#/a"}"##);
+    let list = Value::from_str(alloc, "[{},{}]")?;
+    let places = read_schema_list(alloc, &list, &mut readings)?;
+    assert_eq!(rt; written(alloc, &places)?.as_str(), "[{},{}]");
+    let map = Value::from_str(alloc, r#"{"p":{}}"#)?;
+    let places = read_schema_map(alloc, &map, &mut readings)?;
+    assert_eq!(rt; written(alloc, &places)?.as_str(), r#"{"p":{}}"#);
+    // A reading for each of the four places.
+    assert_eq!(rt; readings.number(), 4);
     Ok(())
 }
 

@@ -1,4 +1,5 @@
 // Schemas that are read, copied and written again, with every member that their tables name.
+use crate::tests::written;
 use crate::types::{AdditionalProperties, ArrayItems, Schema};
 use serde_json::Value;
 use std::alloc::Global;
@@ -9,7 +10,7 @@ use utoipa_base::Tree;
 fn rewritten<T: Tree>(alloc: Global, json: &str) -> Result<String, Fail> {
     let value = T::from_value(alloc, &Value::from_str(alloc, json)?)?;
     let copy = value.try_clone(alloc)?;
-    Ok(copy.to_value(alloc)?.to_string(alloc)?)
+    written(alloc, &copy)
 }
 
 #[test]

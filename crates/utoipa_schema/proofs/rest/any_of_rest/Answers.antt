@@ -4,14 +4,14 @@ use Rattle.serde_json.specs.View.{view}
 use Rattle.utoipa_base.specs.Kinds.{any_of_schema, list_of, ref_or, schema}
 use Rattle.utoipa_base.proofs.ByRows.{passes_on, table_refused, table_fits, fields-first, fields-later, fields-fit}
 use Rattle.utoipa_schema.specs.Plain.{combination_rows}
-use Rattle.utoipa_schema.proofs.Joins.{part_fits, part_refused, has_members}
+use Rattle.utoipa_schema.proofs.Joins.{fields_of_part, no_fields_of_part, has_members}
 use Rattle.utoipa_schema.proofs.rest.any_of_rest.Goals as goal
 
 pub returns-in_err-schema_type-clause-err : goal.returns-in_err-schema_type-clause-err
 returns-in_err-schema_type-clause-err c = passes_on _ _ _ _ c.from_residual.ensures.1 c.in_err-schema_type.ensures.err (λ h. table_refused any_of_schema _ (fields-later _ _ _ (fields-first _ _ _ h)))
 
 pub returns-in_err-rest-clause-err : goal.returns-in_err-rest-clause-err
-returns-in_err-rest-clause-err c = passes_on _ _ _ _ c.from_residual-in_err-rest.ensures.1 c.in_err-rest.ensures.err (λ h. table_refused any_of_schema _ (fields-later _ _ _ (fields-later _ _ _ (part_refused combination_rows _ h))))
+returns-in_err-rest-clause-err c = passes_on _ _ _ _ c.from_residual-in_err-rest.ensures.1 c.in_err-rest.ensures.err (λ h. table_refused any_of_schema _ (fields-later _ _ _ (fields-later _ _ _ (no_fields_of_part combination_rows _ h))))
 
 pub returns-clause-ok : goal.returns-clause-ok
 returns-clause-ok c = λ items.
@@ -19,5 +19,5 @@ returns-clause-ok c = λ items.
     table_fits any_of_schema _ _ _ is
     (fields-fit _ _ _ _ _ items
     (fields-fit _ _ _ _ _ c.in_ok-schema_type.ensures.ok
-    (part_fits combination_rows _ _ c.in_ok-rest.ensures.ok)))
+    (fields_of_part combination_rows _ _ c.in_ok-rest.ensures.ok)))
     c.in_ok-extensions.ensures

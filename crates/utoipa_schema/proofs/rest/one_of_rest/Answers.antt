@@ -4,7 +4,7 @@ use Rattle.serde_json.specs.View.{view}
 use Rattle.utoipa_base.specs.Kinds.{one_of_schema, list_of, ref_or, schema}
 use Rattle.utoipa_base.proofs.ByRows.{passes_on, table_refused, table_fits, fields-first, fields-later, fields-fit, fields-nil}
 use Rattle.utoipa_schema.specs.Plain.{combination_rows, combination_docs}
-use Rattle.utoipa_schema.proofs.Joins.{join-fit, join-first, join-later, part_fits, part_refused, has_members}
+use Rattle.utoipa_schema.proofs.Joins.{join-fit, join-first, join-later, fields_of_part, no_fields_of_part, has_members}
 use Rattle.utoipa_schema.proofs.rest.one_of_rest.Goals as goal
 
 pub returns-in_err-schema_type-clause-err : goal.returns-in_err-schema_type-clause-err
@@ -14,7 +14,7 @@ pub returns-in_err-title-clause-err : goal.returns-in_err-title-clause-err
 returns-in_err-title-clause-err c = passes_on _ _ _ _ c.from_residual-in_err-title.ensures.1 c.in_err-title.ensures.err (λ h. table_refused one_of_schema _ (fields-later _ _ _ (fields-later _ _ _ (fields-first _ _ _ h))))
 
 pub returns-in_err-rest-clause-err : goal.returns-in_err-rest-clause-err
-returns-in_err-rest-clause-err c = passes_on _ _ _ _ c.from_residual-in_err-rest.ensures.1 c.in_err-rest.ensures.err (λ h. table_refused one_of_schema _ (fields-later _ _ _ (fields-later _ _ _ (fields-later _ _ _ (join-first combination_rows _ _ (part_refused combination_rows _ h))))))
+returns-in_err-rest-clause-err c = passes_on _ _ _ _ c.from_residual-in_err-rest.ensures.1 c.in_err-rest.ensures.err (λ h. table_refused one_of_schema _ (fields-later _ _ _ (fields-later _ _ _ (fields-later _ _ _ (join-first combination_rows _ _ (no_fields_of_part combination_rows _ h))))))
 
 pub returns-in_err-read_only-clause-err : goal.returns-in_err-read_only-clause-err
 returns-in_err-read_only-clause-err c = passes_on _ _ _ _ c.from_residual-in_err-read_only.ensures.1 c.in_err-read_only.ensures.err (λ h. table_refused one_of_schema _ (fields-later _ _ _ (fields-later _ _ _ (fields-later _ _ _ (join-later combination_rows _ _ (fields-first _ _ _ h))))))
@@ -29,7 +29,7 @@ returns-clause-ok c = λ items.
     (fields-fit _ _ _ _ _ items
     (fields-fit _ _ _ _ _ c.in_ok-schema_type.ensures.ok
     (fields-fit _ _ _ _ _ c.in_ok-title.ensures.ok
-    (join-fit combination_rows _ _ (combination_docs c.in_ok-rest.rest) _ (part_fits combination_rows _ _ c.in_ok-rest.ensures.ok)
+    (join-fit combination_rows _ _ (combination_docs c.in_ok-rest.rest) _ (fields_of_part combination_rows _ _ c.in_ok-rest.ensures.ok)
     (fields-fit _ _ _ _ _ c.in_ok-read_only.ensures.ok
     (fields-fit _ _ _ _ _ c.in_ok-write_only.ensures.ok
     (fields-nil _)))))))

@@ -1,0 +1,64 @@
+#!/usr/bin/env python3
+"""Tells which functions of a crate the prover refuses under a must-fail edit that turns many functions at once.
+
+usage: tools/refused.py CRATE EDIT..      each EDIT a file of crates/CRATE/must-fail
+
+`rt ci` wants only that some function is refused. This checks a copy of the repository with all the edits applied, prints
+each function that was refused, and ends with status 1 where they are fewer than the lines that the edits change. A
+function that calls a refused one is not judged, so an edit turns no function together with one that it calls.
+"""
+import os
+import re
+import shutil
+import subprocess
+import sys
+import tempfile
+
+ROOT = os.path.dirname(os.path.dirname(os.path.abspath(__file__)))
+
+
+def apply_edit(folder, edit):
+    """Changes the files of a crate as an edit says, and returns how many lines it changed."""
+    changed, path, old = 0, None, None
+    with open(edit) as lines:
+        for line in lines.read().split("\n"):
+            if line.startswith("file: "):
+                path = os.path.join(folder, line[len("file: "):])
+            elif line.startswith("old: "):
+                old = line[len("old: "):]
+            elif line.startswith("new: "):
+                with open(path) as source:
+                    text = source.read()
+                if text.count(old) != 1:
+                    sys.exit("%s: %r stands %d times in %s" % (edit, old, text.count(old), path))
+                with open(path, "w") as source:
+                    source.write(text.replace(old, line[len("new: "):]))
+                changed += 1
+    return changed
+
+
+def main():
+    if len(sys.argv) < 3:
+        sys.exit(__doc__)
+    crate, edits = sys.argv[1], [os.path.abspath(it) for it in sys.argv[2:]]
+    with tempfile.TemporaryDirectory() as room:
+        copy = os.path.join(room, "copy")
+        shutil.copytree(ROOT, copy, ignore=shutil.ignore_patterns(".git"))
+        subprocess.run(["git", "init", "-q", copy], check=True)
+        folder = os.path.join(copy, "crates", crate)
+        changed = sum(apply_edit(folder, it) for it in edits)
+        ran = subprocess.run(["rt", "check"], cwd=folder, stdout=subprocess.PIPE, stderr=subprocess.STDOUT, text=True)
+    refused = set(re.findall(r"^fn %s::(\S+): not proved" % crate, ran.stdout, re.M))
+    refused |= {it.replace("/", "::") for it in re.findall(r"^help: write \./proofs/(\S+)/Answers\.antt", ran.stdout, re.M)}
+    print("\n".join(sorted(refused)))
+    print("%d lines changed, %d functions refused" % (changed, len(refused)))
+    if len(refused) < changed:
+        print("not judged, for they call one that is refused:")
+        print("\n".join(re.findall(r"^fn %s::(\S+): no proof" % crate, ran.stdout, re.M)))
+        print(ran.stdout[-1000:])
+        return 1
+    return 0
+
+
+if __name__ == "__main__":
+    sys.exit(main())
