@@ -5,14 +5,13 @@ usage: bench/reading.py [MEGABYTES..]      1 10 30 where none is given
 
 Each input is one schema with many properties, made here. `schema` parses the text, looks for fractions, reads the
 tree, writes it and prints it. `server` does the first two steps alone, for no input here is a server, and so it is
-refused. Each time is the least of three runs.
+refused. Each time is that of the processor, the least of three runs.
 """
 import os
 import resource
 import subprocess
 import sys
 import tempfile
-import time
 
 HERE = os.path.dirname(os.path.abspath(__file__))
 COMMAND = os.path.join(HERE, "..", "utoipa_doc")
@@ -53,11 +52,11 @@ def seconds(word, path, status):
     least = None
     for _ in range(RUNS):
         with open(path) as text:
-            begin = time.monotonic()
-            ran = subprocess.run([COMMAND, word], stdin=text, stdout=subprocess.DEVNULL, stderr=subprocess.DEVNULL)
-            taken = time.monotonic() - begin
-        if ran.returncode != status:
-            sys.exit("%s %s ended with status %d, not %d" % (word, path, ran.returncode, status))
+            ran = subprocess.Popen([COMMAND, word], stdin=text, stdout=subprocess.DEVNULL, stderr=subprocess.DEVNULL)
+            ended, used = os.wait4(ran.pid, 0)[1:]
+        if os.waitstatus_to_exitcode(ended) != status:
+            sys.exit("%s %s ended with status %d, not %d" % (word, path, os.waitstatus_to_exitcode(ended), status))
+        taken = used.ru_utime + used.ru_stime
         least = taken if least is None else min(least, taken)
     return least
 

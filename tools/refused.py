@@ -1,11 +1,12 @@
 #!/usr/bin/env python3
-"""Tells which functions of a crate the prover refuses under a must-fail edit that turns many functions at once.
+"""Tries wrong bodies of many functions at once: tells which of them the prover refuses.
 
-usage: tools/refused.py CRATE EDIT..      each EDIT a file of crates/CRATE/must-fail
+usage: tools/refused.py CRATE EDIT..      each EDIT a file of crates/CRATE/wrong-bodies, or of crates/CRATE/must-fail
 
-`rt ci` wants only that some function is refused. This checks a copy of the repository with all the edits applied, prints
-each function that was refused, and ends with status 1 where they are fewer than the lines that the edits change. A
-function that calls a refused one is not judged, so an edit turns no function together with one that it calls.
+An edit is written as those that `rt ci` tries, but changes a line in each of many functions. This checks a copy of the
+repository with all the edits applied, prints each function that was refused, and ends with status 1 where they are fewer
+than the lines that the edits change. A function that calls a refused one is not judged, so the callers of functions that
+are turned stand in an edit of their own, to be tried by itself. Ten to fifteen seconds of a processor for each function.
 """
 import os
 import re
