@@ -27,13 +27,13 @@ def apply_edit(folder, edit):
                 path = os.path.join(folder, line[len("file: "):])
             elif line.startswith("old: "):
                 old = line[len("old: "):]
-            elif line.startswith("new: "):
+            elif line.startswith("new:"):
                 with open(path) as source:
                     text = source.read()
                 if text.count(old) != 1:
                     sys.exit("%s: %r stands %d times in %s" % (edit, old, text.count(old), path))
                 with open(path, "w") as source:
-                    source.write(text.replace(old, line[len("new: "):]))
+                    source.write(text.replace(old, line[len("new:"):].removeprefix(" ")))
                 changed += 1
     return changed
 
@@ -50,7 +50,7 @@ def main():
         changed = sum(apply_edit(folder, it) for it in edits)
         ran = subprocess.run(["rt", "check"], cwd=folder, stdout=subprocess.PIPE, stderr=subprocess.STDOUT, text=True)
     refused = set(re.findall(r"^fn %s::(\S+): not proved" % crate, ran.stdout, re.M))
-    refused |= {it.replace("/", "::") for it in re.findall(r"^help: write \./proofs/(\S+)/Answers\.antt", ran.stdout, re.M)}
+    refused |= {it.replace("/", "::") for it in re.findall(r"^help: (?:write|add these lines to) \./proofs/(\S+)/Answers\.antt", ran.stdout, re.M)}
     print("\n".join(sorted(refused)))
     print("%d lines changed, %d functions refused" % (changed, len(refused)))
     if len(refused) < changed:
