@@ -18,6 +18,22 @@ import tempfile
 ROOT = os.path.dirname(os.path.dirname(os.path.abspath(__file__)))
 
 
+def copy_with_libraries(crate, room):
+    """Copies a crate and those of the repository that it stands on, and returns the crate's folder."""
+    with open(os.path.join(ROOT, "crates.txt")) as lines:
+        lines = [it.split("#")[0].partition(":") for it in lines]
+    uses = {name.strip(): used.split() for name, _, used in lines if used}
+    needed = [crate]
+    for name in needed:
+        needed += [it for it in uses[name] if it in uses and it not in needed]
+    subprocess.run(["git", "init", "-q", room], check=True)
+    with open(os.path.join(room, "crates.txt"), "w") as listed:
+        for name in needed:
+            listed.write("%s: %s\n" % (name, " ".join(uses[name])))
+            shutil.copytree(os.path.join(ROOT, "crates", name), os.path.join(room, "crates", name))
+    return os.path.join(room, "crates", crate)
+
+
 def apply_edit(folder, edit):
     """Changes the files of a crate as an edit says, and returns how many lines it changed."""
     changed, path, old = 0, None, None
@@ -43,10 +59,7 @@ def main():
         sys.exit(__doc__)
     crate, edits = sys.argv[1], [os.path.abspath(it) for it in sys.argv[2:]]
     with tempfile.TemporaryDirectory() as room:
-        copy = os.path.join(room, "copy")
-        shutil.copytree(ROOT, copy, ignore=shutil.ignore_patterns(".git"))
-        subprocess.run(["git", "init", "-q", copy], check=True)
-        folder = os.path.join(copy, "crates", crate)
+        folder = copy_with_libraries(crate, room)
         changed = sum(apply_edit(folder, it) for it in edits)
         ran = subprocess.run(["rt", "check"], cwd=folder, stdout=subprocess.PIPE, stderr=subprocess.STDOUT, text=True)
     refused = set(re.findall(r"^fn %s::(\S+): not proved" % crate, ran.stdout, re.M))
