@@ -6,7 +6,7 @@ use std::alloc::Global;
 use std::process::Abort;
 use std::test::Fail;
 
-// The texts that begin, name a member that is null, and end, are each answered so.
+// With null at each of the names in turn, the object that begins so is answered with the line.
 fn null_is_answered(
     rt: &(impl Abort + AllocGlobal),
     begin: &str,
@@ -22,6 +22,7 @@ fn null_is_answered(
     Ok(())
 }
 
+// With null at each of the names in turn, the object that begins so is no schema.
 fn null_is_refused(
     rt: &(impl Abort + AllocGlobal),
     begin: &str,
