@@ -1,14 +1,14 @@
 #!/usr/bin/env python3
 """Times the command `utoipa_doc` on schemas of growing size, and prints the table of docs/PERFORMANCE.md.
 
-usage: bench/reading.py [MEGABYTES..]      1 10 30 where none is given
+usage: bench/reading.py [--beside PROGRAM] [MEGABYTES..]      1 10 30 where none is given
 
 Each input is one schema with many properties, made here. `schema` parses the text, looks for fractions, reads the
 tree, writes it and prints it. `server` does the first two steps alone, for no input here is a server, and so it is
-refused. Each time is that of the processor, the least of three runs.
+refused. Each time is that of the processor, the least of three runs; the memory is the greatest that a run held.
+With --beside, the same of another build of the program, by turns.
 """
 import os
-import resource
 import subprocess
 import sys
 import tempfile
@@ -47,40 +47,42 @@ def write_schema(path, megabytes, properties):
         out.write("}}")
 
 
-def seconds(word, path, status):
-    """The least time of some runs, each of which has to end with this status."""
-    least = None
-    for _ in range(RUNS):
-        with open(path) as text:
-            ran = subprocess.Popen([COMMAND, word], stdin=text, stdout=subprocess.DEVNULL, stderr=subprocess.DEVNULL)
-            ended, used = os.wait4(ran.pid, 0)[1:]
-        if os.waitstatus_to_exitcode(ended) != status:
-            sys.exit("%s %s ended with status %d, not %d" % (word, path, os.waitstatus_to_exitcode(ended), status))
-        taken = used.ru_utime + used.ru_stime
-        least = taken if least is None else min(least, taken)
-    return least
+def measured(program, word, path, status):
+    """The seconds and the memory of a run, which has to end with this status."""
+    with open(path) as text:
+        ran = subprocess.Popen([program, word], stdin=text, stdout=subprocess.DEVNULL, stderr=subprocess.DEVNULL)
+        ended, used = os.wait4(ran.pid, 0)[1:]
+    if os.waitstatus_to_exitcode(ended) != status:
+        sys.exit("%s %s ended with status %d, not %d" % (word, path, os.waitstatus_to_exitcode(ended), status))
+    return used.ru_utime + used.ru_stime, used.ru_maxrss / 1024
+
+
+def best(programs, word, path, status):
+    """For each program the least time and the greatest memory of some runs, which take turns."""
+    runs = [[measured(program, word, path, status) for program in programs] for _ in range(RUNS)]
+    return [(min(it[at][0] for it in runs), max(it[at][1] for it in runs)) for at in range(len(programs))]
 
 
 def main():
-    sizes = [int(word) for word in sys.argv[1:]] or [1, 10, 30]
-    print("| Input | MB | parsed (s) | ratio | parsed, read and written (s) | ratio | MB per second |")
-    print("|---|---|---|---|---|---|---|")
+    words, programs = sys.argv[1:], [COMMAND]
+    if words[:1] == ["--beside"]:
+        programs.append(words[1])
+        words = words[2:]
+    sizes = [int(word) for word in words] or [1, 10, 30]
+    columns = ["parsed (s)", "parsed, read and written (s)", "MB per second", "greatest memory (MB)"]
+    beside = ["beside it: " + it for it in columns[1::2]] * (len(programs) - 1)
+    print("| Input | MB | %s |" % " | ".join(columns + beside))
+    print("|" + "---|" * (2 + len(columns + beside)))
     with tempfile.TemporaryDirectory() as folder:
         for name, properties in (("ordinary", ORDINARY), ("tried", TRIED)):
-            first = None
             for megabytes in sizes:
                 path = os.path.join(folder, "%s-%d.json" % (name, megabytes))
                 write_schema(path, megabytes, properties)
-                parsed = seconds("server", path, 1)
-                whole = seconds("schema", path, 0)
-                first = first or (parsed, whole)
-                print(
-                    "| %s | %d | %.2f | %.1f | %.2f | %.1f | %.1f |"
-                    % (name, megabytes, parsed, parsed / first[0], whole, whole / first[1], megabytes / whole),
-                    flush=True,
-                )
-    peak = resource.getrusage(resource.RUSAGE_CHILDREN).ru_maxrss / 1024
-    print("\nGreatest memory of a run: %.0f MB." % peak)
+                parsed = best(programs[:1], "server", path, 1)[0][0]
+                (whole, memory), *others = best(programs, "schema", path, 0)
+                cells = ["%.2f" % parsed, "%.2f" % whole, "%.1f" % (megabytes / whole), "%.0f" % memory]
+                cells += ["%.2f | %.0f" % it for it in others]
+                print("| %s | %d | %s |" % (name, megabytes, " | ".join(cells)), flush=True)
 
 
 if __name__ == "__main__":

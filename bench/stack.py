@@ -1,11 +1,11 @@
 #!/usr/bin/env python3
 """Finds the least stack in which schemas as deep as a text can be are read, copied, written and dropped.
 
-usage: bench/stack.py      after `rt test` in crates/utoipa_schema
+usage: bench/stack.py      after `rt run < stdin` in crates/utoipa_cases
 
-A text nests 127 objects and lists. Each input nests schemas so deep in one of the nine members that hold schemas; the
-command `utoipa_doc schema` reads, writes and drops it, and the tests of depth copy it too. Each figure is in KiB, to the
-next 4; the default stack has 8192.
+A text nests 127 objects and lists. Each input nests schemas so deep in one of the nine members that hold schemas. The
+command `utoipa_doc schema` reads, writes and drops it; the case `read Schema` of `utoipa_cases` copies it too. Each figure is
+in KiB, to the next 4; the default stack has 8192.
 """
 import os
 import resource
@@ -14,13 +14,7 @@ import sys
 
 HERE = os.path.dirname(os.path.abspath(__file__))
 COMMAND = os.path.join(HERE, "..", "utoipa_doc")
-TESTS = os.path.join(HERE, "..", "crates", "utoipa_schema", "out", "utoipa_schema_tests")
-
-# The tests that read, copy, write and drop such schemas.
-DEEP = (
-    "tests::depth::a_member_may_be_as_deep_as_a_text",
-    "tests::depth::a_list_or_map_may_be_as_deep_as_a_text",
-)
+CASES = os.path.join(HERE, "..", "crates", "utoipa_cases", "out", "utoipa_cases")
 
 # A member, what opens a level of it, what closes it, and how many levels there are.
 MEMBERS = (
@@ -42,22 +36,13 @@ def limited(kib):
     resource.setrlimit(resource.RLIMIT_CORE, (0, 0))
 
 
-def answers(text, kib):
-    """Whether the command answers the text itself in a stack of so many KiB."""
+def answers(words, given, answer, kib):
+    """Whether a program answers so in a stack of so many KiB."""
     try:
-        ran = subprocess.run([COMMAND, "schema"], input=text, stdout=subprocess.PIPE, preexec_fn=lambda: limited(kib))
+        ran = subprocess.run(words, input=given, stdout=subprocess.PIPE, preexec_fn=lambda: limited(kib))
     except OSError:
         return False
-    return ran.returncode == 0 and ran.stdout == text + b"\n"
-
-
-def passes(test, kib):
-    """Whether a test of utoipa_schema passes in a stack of so many KiB."""
-    try:
-        ran = subprocess.run([TESTS, test], stdout=subprocess.DEVNULL, preexec_fn=lambda: limited(kib))
-    except OSError:
-        return False
-    return ran.returncode == 0
+    return ran.returncode == 0 and ran.stdout == answer
 
 
 def least_stack(is_enough):
@@ -72,15 +57,15 @@ def least_stack(is_enough):
 
 
 def main():
-    print("| Member | Levels | Stack (KiB) |")
-    print("|---|---|---|")
+    if not os.path.isfile(CASES):
+        sys.exit("no program of cases: run `rt run < stdin` in crates/utoipa_cases first")
+    print("| Member | Levels | Read, written and dropped (KiB) | Copied too |")
+    print("|---|---|---|---|")
     for name, begin, end, levels in MEMBERS:
-        text = (begin * levels + "{}" + end * levels).encode()
-        print("| `%s` | %d | %d |" % (name, levels, least_stack(lambda kib: answers(text, kib))), flush=True)
-    if not os.path.isfile(TESTS):
-        sys.exit("no tests: run `rt test` in crates/utoipa_schema first")
-    for test in DEEP:
-        print("| test `%s` | | %d |" % (test, least_stack(lambda kib: passes(test, kib))), flush=True)
+        text = (begin * levels + "{}" + end * levels + "\n").encode()
+        command = least_stack(lambda kib: answers([COMMAND, "schema"], text, text, kib))
+        case = least_stack(lambda kib: answers([CASES], b"read Schema\t" + text, text, kib))
+        print("| `%s` | %d | %d | %d |" % (name, levels, command, case), flush=True)
 
 
 if __name__ == "__main__":

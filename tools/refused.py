@@ -1,28 +1,116 @@
 #!/usr/bin/env python3
-"""Tries wrong bodies of many functions at once: tells which of them the prover refuses.
+"""Tries wrong bodies, many at a time: tells of each whether the prover refuses it.
 
-usage: tools/refused.py CRATE EDIT..      each EDIT a file of crates/CRATE/wrong-bodies, or of crates/CRATE/must-fail
+usage: tools/refused.py CRATE [EDIT..]     each EDIT a file of crates/CRATE/wrong-bodies or of crates/CRATE/must-fail;
+                                           with none, each file of crates/CRATE/wrong-bodies
 
-An edit is written as those that `rt ci` tries, but changes a line in each of many functions. This checks a copy of the
-repository with all the edits applied, prints each function that was refused, and ends with status 1 where they are fewer
-than the lines that the edits change. A function that calls a refused one is not judged, so the callers of functions that
-are turned stand in an edit of their own, to be tried by itself. Ten to fifteen seconds of a processor for each function.
+An edit is written as those that `rt ci` tries. It is one wrong body, refused where the prover refuses a function that it
+changes, or, where it changes the text of a type, any function. One called each_.. changes many functions, and is a wrong
+body of each.
+
+A round checks a copy of the crate with as many bodies as go together: no two of a function, or of a cycle of functions. A
+function that calls a refused one is not judged, so its body goes into the next round. Ends with status 1 where a body is
+not refused or can't be tried, or where a function is refused that no body changes. Check the crate first: the copy takes
+over what that kept, and a body then takes five to fifteen seconds of a processor.
 """
+import collections
+import glob
 import os
 import re
+import resource
 import shutil
 import subprocess
 import sys
 import tempfile
 
 ROOT = os.path.dirname(os.path.dirname(os.path.abspath(__file__)))
+CRATES = os.path.join(ROOT, "crates")
+
+# The edit (and the function, of one called each_..), the new text of each changed line by file and index, and the functions.
+Body = collections.namedtuple("Body", "name lines functions")
+
+
+def lines_of(path):
+    with open(path) as text:
+        return text.read().split("\n")
+
+
+def type_named(line):
+    """Returns what the checker calls an impl or a trait: `impl<T: Tree> Tree for Vec<T>` is VecTree."""
+    kind, taken, named = re.match(r"(?:pub )?(impl|trait)(?:<(.*?)>)? (.*?)[:{]", line).groups()
+    variables = re.findall(r"(?:^|, )'?(\w+)", taken or "") if kind == "impl" else []
+    of_trait, _, of_type = named.rpartition(" for ")
+    words = [it for it in re.findall(r"\w+", of_type) + re.findall(r"\w+", of_trait) if it not in variables]
+    return "".join(it[0].upper() + it[1:] for it in words)
+
+
+def functions_of(crate):
+    """Returns the function that each line of a crate stands in, by file and index, and the cycle of each that is in one."""
+    standing, cycles = {}, {}
+    for path in glob.glob(os.path.join(CRATES, crate, "src/**/*.rt"), recursive=True):
+        file = os.path.relpath(path, os.path.join(CRATES, crate))
+        module = [it for it in file[len("src/"):-len(".rt")].split("/") if it not in ("lib", "main")]
+        of_type, cycle, function, start = [], None, None, 0
+        for at, line in enumerate(lines_of(path)):
+            if re.match(r"(pub )?(impl|trait)\b", line):
+                of_type = [type_named(line)]
+            cycle = (re.match(r"\s*#\[cycle\((\w+)\)\]", line) or [None, cycle])[1]
+            found = re.match(r"( *)(?:pub(?:\(\w+\))? )?(?:const |final )?fn (\w+)", line)
+            if found:
+                function = "::".join(module + of_type * bool(found[1]) + [found[2]])
+                cycles.update({function: cycle} if cycle else {})
+                cycle = None
+                # what stands above a function in its impl belongs to it
+                standing.update({(file, it): function for it in range(start, at)})
+            if function:
+                standing[file, at] = function
+                start = at + 1
+            if line.startswith("}"):
+                of_type, function, start = [], None, at + 1
+    return standing, cycles
+
+
+def bodies_of(crate, edit, standing):
+    """Returns the wrong bodies of an edit, or why it can't be applied."""
+    before, after, file, old = {}, {}, None, None
+    for line in lines_of(edit):
+        if line.startswith("file: "):
+            file = line[len("file: "):]
+            before.setdefault(file, lines_of(os.path.join(CRATES, crate, file)))
+            after.setdefault(file, "\n".join(before[file]))
+        elif line.startswith("old: "):
+            old = line[len("old: "):]
+        elif line.startswith("new:"):
+            if after[file].count(old) != 1:
+                return "%r stands %d times in %s" % (old, after[file].count(old), file)
+            after[file] = after[file].replace(old, line[len("new:"):].removeprefix(" "))
+    lines = {(file, at): new for file in after for at, new in enumerate(after[file].split("\n")) if new != before[file][at]}
+    functions = sorted({standing[it] for it in lines if it in standing})
+    name = os.path.basename(edit)[:-len(".edit")]
+    if not name.startswith("each_"):
+        return [Body(name, lines, functions)]
+    apart = [(it, {at: new for at, new in lines.items() if standing.get(at, it) == it}) for it in functions]
+    return [Body("%s %s" % (name, it), of_it, [it]) for it, of_it in apart]
+
+
+def that_go_together(bodies, cycles):
+    """Returns the first body, and each other that changes no function, cycle or shared line of those before it."""
+    if not bodies[0].functions:
+        return bodies[:1]
+    chosen, taken, lines = [], set(), {}
+    for body in bodies:
+        takes = {cycles.get(it, it) for it in body.functions}
+        if takes and not takes & taken and all(lines.get(at, new) == new for at, new in body.lines.items()):
+            chosen.append(body)
+            taken |= takes
+            lines.update(body.lines)
+    return chosen
 
 
 def copy_with_libraries(crate, room):
     """Copies a crate and those of the repository that it stands on, and returns the crate's folder."""
-    with open(os.path.join(ROOT, "crates.txt")) as lines:
-        lines = [it.split("#")[0].partition(":") for it in lines]
-    uses = {name.strip(): used.split() for name, _, used in lines if used}
+    uses = [it.split("#")[0].partition(":") for it in lines_of(os.path.join(ROOT, "crates.txt"))]
+    uses = {name.strip(): used.split() for name, _, used in uses if used}
     needed = [crate]
     for name in needed:
         needed += [it for it in uses[name] if it in uses and it not in needed]
@@ -30,48 +118,75 @@ def copy_with_libraries(crate, room):
     with open(os.path.join(room, "crates.txt"), "w") as listed:
         for name in needed:
             listed.write("%s: %s\n" % (name, " ".join(uses[name])))
-            shutil.copytree(os.path.join(ROOT, "crates", name), os.path.join(room, "crates", name))
+            # a library that is built is not checked again, so it needs none of what its check kept
+            is_built = name != crate and os.path.exists(os.path.join(CRATES, name, "out/rlib/stamp"))
+            left_out = shutil.ignore_patterns("incremental") if is_built else None
+            shutil.copytree(os.path.join(CRATES, name), os.path.join(room, "crates", name), ignore=left_out)
     return os.path.join(room, "crates", crate)
 
 
-def apply_edit(folder, edit):
-    """Changes the files of a crate as an edit says, and returns how many lines it changed."""
-    changed, path, old = 0, None, None
-    with open(edit) as lines:
-        for line in lines.read().split("\n"):
-            if line.startswith("file: "):
-                path = os.path.join(folder, line[len("file: "):])
-            elif line.startswith("old: "):
-                old = line[len("old: "):]
-            elif line.startswith("new:"):
-                with open(path) as source:
-                    text = source.read()
-                if text.count(old) != 1:
-                    sys.exit("%s: %r stands %d times in %s" % (edit, old, text.count(old), path))
-                with open(path, "w") as source:
-                    source.write(text.replace(old, line[len("new:"):].removeprefix(" ")))
-                changed += 1
-    return changed
+def check_with(crate, bodies):
+    """Checks a copy of a crate with the bodies in it. Returns what is said of each function, and all that is said."""
+    with tempfile.TemporaryDirectory() as room:
+        folder = copy_with_libraries(crate, room)
+        for changed in {file for body in bodies for file, _ in body.lines}:
+            text = lines_of(os.path.join(folder, changed))
+            for (file, at), new in [it for body in bodies for it in body.lines.items()]:
+                if file == changed:
+                    text[at] = new
+            with open(os.path.join(folder, changed), "w") as source:
+                source.write("\n".join(text))
+        how = {"stdout": subprocess.PIPE, "stderr": subprocess.STDOUT, "text": True}
+        said = subprocess.run(["rt", "check", "--jobs", "1"], cwd=folder, **how).stdout
+    found = dict(re.findall(r"^fn %s::(\S+): (.*)" % crate, said, re.M))
+    for function, words in found.items():
+        waits = re.search(r"which (is|are) not proved|waits for", words)
+        if re.match(r"not proved|no proof", words) and not waits:
+            found[function] = "refused"
+    return found, said
 
 
 def main():
-    if len(sys.argv) < 3:
+    if len(sys.argv) < 2:
         sys.exit(__doc__)
-    crate, edits = sys.argv[1], [os.path.abspath(it) for it in sys.argv[2:]]
-    with tempfile.TemporaryDirectory() as room:
-        folder = copy_with_libraries(crate, room)
-        changed = sum(apply_edit(folder, it) for it in edits)
-        ran = subprocess.run(["rt", "check"], cwd=folder, stdout=subprocess.PIPE, stderr=subprocess.STDOUT, text=True)
-    refused = set(re.findall(r"^fn %s::(\S+): not proved" % crate, ran.stdout, re.M))
-    refused |= {it.replace("/", "::") for it in re.findall(r"^help: (?:write|add these lines to) \./proofs/(\S+)/Answers\.antt", ran.stdout, re.M)}
-    print("\n".join(sorted(refused)))
-    print("%d lines changed, %d functions refused" % (changed, len(refused)))
-    if len(refused) < changed:
-        print("not judged, for they call one that is refused:")
-        print("\n".join(re.findall(r"^fn %s::(\S+): no proof" % crate, ran.stdout, re.M)))
-        print(ran.stdout[-1000:])
-        return 1
-    return 0
+    crate = sys.argv[1]
+    standing, cycles = functions_of(crate)
+    left, refused, faults = [], 0, 0
+    for edit in sys.argv[2:] or sorted(glob.glob(os.path.join(CRATES, crate, "wrong-bodies/*.edit"))):
+        bodies = bodies_of(crate, edit, standing)
+        if isinstance(bodies, str):
+            print("NOT TRIED %s: %s" % (edit, bodies))
+            faults += 1
+        else:
+            left += bodies
+    at_once = len(left)
+    while left:
+        chosen = that_go_together(left, cycles)[:at_once]
+        found, said = check_with(crate, chosen)
+        judged = []
+        for body in chosen:
+            of_body = {found.get(it, "no verdict") for it in body.functions or found}
+            if "refused" in of_body:
+                print("refused", body.name)
+                refused += 1
+            elif len(chosen) == 1 or of_body == {"proved"}:
+                print("NOT REFUSED %s: %s" % (body.name, "; ".join(sorted(of_body)) if found else said[-2000:]))
+                faults += 1
+            else:
+                continue
+            judged.append(body)
+        changed = {cycles.get(it, it) for body in chosen for it in body.functions or standing.values()}
+        for function in sorted({*standing.values()}):
+            if found.get(function) == "refused" and cycles.get(function, function) not in changed:
+                print("REFUSED, though no body changes it: " + function)
+                faults += 1
+        # where none was judged, one of them keeps the copy from compiling
+        at_once = len(left) if judged else len(chosen) // 2
+        left = [it for it in chosen if it not in judged] + [it for it in left if it not in chosen]
+        print("-- %d tried together, %d left" % (len(chosen), len(left)), flush=True)
+    used = resource.getrusage(resource.RUSAGE_CHILDREN)
+    print("%d refused, %d faults, %d seconds of a processor" % (refused, faults, used.ru_utime + used.ru_stime))
+    return 1 if faults else 0
 
 
 if __name__ == "__main__":

@@ -17,8 +17,3 @@ pub mod ReadsBack
 pub mod Plain
 pub mod Twice
 pub mod WhatIsRead
-mod ExampleTrees
-mod ExamplesLeaves
-mod ExamplesSchemas
-mod ExamplesSecurity
-mod ExamplesPaths

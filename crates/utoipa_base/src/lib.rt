@@ -17,8 +17,6 @@ pub mod required;
 pub mod rows;
 pub mod same;
 mod scalar;
-#[cfg(test)]
-mod tests;
 pub mod tree;
 pub mod words;
 

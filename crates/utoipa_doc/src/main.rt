@@ -1,20 +1,10 @@
 //! Reads a document of a command's type from standard input and writes it to standard output.
 #![tactic(auto)]
 
-mod answer;
-mod command;
-mod reading;
-mod refusal;
-mod sink;
-mod source;
-#[cfg(test)]
-mod tests;
-mod writing;
-
-use crate::command::{Outcome, report, run};
-use crate::refusal::Refusal;
 use std::process::ExitCode;
 use std::{env, io};
+pub use utoipa_command::run;
+use utoipa_command::{Outcome, Refusal, report};
 
 fn main(rt: HostRuntime) -> ExitCode {
     let mut fault = rt.stderr();

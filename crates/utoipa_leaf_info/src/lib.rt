@@ -3,6 +3,4 @@
 
 pub mod example;
 pub mod info;
-#[cfg(test)]
-mod tests;
 pub mod xml;

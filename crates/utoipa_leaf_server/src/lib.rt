@@ -2,5 +2,3 @@
 #![tactic(auto)]
 
 pub mod server;
-#[cfg(test)]
-mod tests;

@@ -3,8 +3,6 @@
 
 pub mod external_docs;
 pub mod tag;
-#[cfg(test)]
-mod tests;
 
 pub use external_docs::{ExternalDocs, ExternalDocsBuilder};
 pub use tag::{Tag, TagBuilder};

@@ -2,8 +2,6 @@
 #![tactic(auto)]
 
 pub mod path;
-#[cfg(test)]
-mod tests;
 pub mod version;
 
 pub use path::{HttpMethod, ParameterIn, ParameterStyle};

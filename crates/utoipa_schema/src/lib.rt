@@ -11,8 +11,6 @@ pub mod one_of;
 mod plain;
 mod read;
 mod rest;
-#[cfg(test)]
-mod tests;
 pub mod trees;
 pub mod types;
 mod write;

@@ -160,6 +160,9 @@ pub(crate) fn read_one_of(
     ensures at_least { IfOk result (λ s. readings.new < u64.MAX
         → readings.old + schema_count (one_of_doc s) ≤ readings.new) }
 {
+    if !tree.is_object() {
+        return Err(ReadFault::Kind("OneOf"));
+    }
     let items = read_items_of(alloc, tree, "oneOf", readings)?;
     one_of_rest(alloc, tree, items)
 }
@@ -178,6 +181,9 @@ pub(crate) fn read_all_of(
     ensures at_least { IfOk result (λ s. readings.new < u64.MAX
         → readings.old + schema_count (all_of_doc s) ≤ readings.new) }
 {
+    if !tree.is_object() {
+        return Err(ReadFault::Kind("AllOf"));
+    }
     let items = read_items_of(alloc, tree, "allOf", readings)?;
     all_of_rest(alloc, tree, items)
 }
@@ -196,6 +202,9 @@ pub(crate) fn read_any_of(
     ensures at_least { IfOk result (λ s. readings.new < u64.MAX
         → readings.old + schema_count (any_of_doc s) ≤ readings.new) }
 {
+    if !tree.is_object() {
+        return Err(ReadFault::Kind("AnyOf"));
+    }
     let items = read_items_of(alloc, tree, "anyOf", readings)?;
     any_of_rest(alloc, tree, items)
 }
@@ -216,6 +225,9 @@ fn array_without_content(
     ensures at_least { IfOk result (λ s. readings.new < u64.MAX
         → readings.old + schema_count (array_doc s) ≤ readings.new) }
 {
+    if !tree.is_object() {
+        return Err(ReadFault::Kind("Array"));
+    }
     let items = read_items_member(alloc, tree, readings)?;
     let prefix_items = read_prefix_items(alloc, tree, readings)?;
     array_rest(alloc, tree, items, prefix_items)

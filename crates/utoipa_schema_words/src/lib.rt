@@ -3,8 +3,6 @@
 
 pub mod discriminator;
 pub mod format;
-#[cfg(test)]
-mod tests;
 pub mod types;
 
 pub use discriminator::Discriminator;

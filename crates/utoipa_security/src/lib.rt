@@ -2,5 +2,3 @@
 #![tactic(auto)]
 
 pub mod security;
-#[cfg(test)]
-mod tests;

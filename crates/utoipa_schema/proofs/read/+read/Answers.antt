@@ -16,7 +16,7 @@ use Rattle.utoipa_base.specs.Values.{values, members_values, schema_count, docs_
 use Rattle.utoipa_base.specs.Views.{pairs_of}
 use Rattle.utoipa_base.proofs.Alternatives.{ref_reads, own_reads}
 use Rattle.utoipa_base.proofs.ByKind.{values_read, prepend, values_read-step, values_read-stop, values_read-end, drop_item, list_by_items}
-use Rattle.utoipa_base.proofs.ByRows.{passes_on, null_as, table_refused, fields-first, fields-later}
+use Rattle.utoipa_base.proofs.ByRows.{passes_on, null_as, table_refused, fields-first, fields-later, read-no_object}
 use Rattle.utoipa_base.proofs.Maps.{texts, entries_read, prepend_entries, insert_last, entries_read-step, entries_read-stop, entries_read-end, map_by_entries}
 use Rattle.utoipa_base.proofs.Places.{own_none, own_places, reference_counted, some_value, counted_more, docs_schema_count-none, entries_schema_count-none, schema_count-list, schema_count-map, schema_count-none, schema_count-some, schema_count-flag, ticked_least, ticked_grows, ticked_most}
 use Rattle.utoipa_base.proofs.Values.{items_values-drop, array_values, members_values-cons, object_values, docs_schema_count-last, entries_schema_count-last}
@@ -933,6 +933,9 @@ read_array_or_object-returns-in-Err-object_without_content-clause-err t c =
     let last : read (named object_schema) (view c.args.tree.now) ≡ None = search rules in
     no_schema (view c.args.tree.now) c.requires.no_combination gone last
 
+pub read_one_of-returns-then-not-is_object-clause-err : goal.read_one_of-returns-then-not-is_object-clause-err
+read_one_of-returns-then-not-is_object-clause-err t c = read-no_object one_of_schema _ (sym c.is_object.ensures ∙ c.if-not-is_object.true)
+
 pub read_one_of-returns-in_err-items-clause-err : goal.read_one_of-returns-in_err-items-clause-err
 read_one_of-returns-in_err-items-clause-err t c = passes_on _ _ _ _ c.from_residual.ensures.1 c.in_err-items.ensures.err (λ h. table_refused one_of_schema _ (fields-first _ _ _ h))
 
@@ -942,6 +945,9 @@ read_one_of-returns-clause-ok t c = if_ok _ _ c.one_of_rest.result c.one_of_rest
 pub read_one_of-returns-clause-at_least : goal.read_one_of-returns-clause-at_least
 read_one_of-returns-clause-at_least t c = counted_as one_of_doc c.one_of_rest.result c.args.readings.now c.read_items_of.new.readings (schema_count (places_doc schema_doc c.in_ok-items.items))
     (if_ok _ _ c.one_of_rest.result c.one_of_rest.ensures.kept (λ o k. one_of_counts o ∙ ap (λ v. schema_count (places_doc schema_doc v)) k)) c.in_ok-items.ensures.at_least
+
+pub read_all_of-returns-then-not-is_object-clause-err : goal.read_all_of-returns-then-not-is_object-clause-err
+read_all_of-returns-then-not-is_object-clause-err t c = read-no_object all_of_schema _ (sym c.is_object.ensures ∙ c.if-not-is_object.true)
 
 pub read_all_of-returns-in_err-items-clause-err : goal.read_all_of-returns-in_err-items-clause-err
 read_all_of-returns-in_err-items-clause-err t c = passes_on _ _ _ _ c.from_residual.ensures.1 c.in_err-items.ensures.err (λ h. table_refused all_of_schema _ (fields-first _ _ _ h))
@@ -953,6 +959,9 @@ pub read_all_of-returns-clause-at_least : goal.read_all_of-returns-clause-at_lea
 read_all_of-returns-clause-at_least t c = counted_as all_of_doc c.all_of_rest.result c.args.readings.now c.read_items_of.new.readings (schema_count (places_doc schema_doc c.in_ok-items.items))
     (if_ok _ _ c.all_of_rest.result c.all_of_rest.ensures.kept (λ o k. all_of_counts o ∙ ap (λ v. schema_count (places_doc schema_doc v)) k)) c.in_ok-items.ensures.at_least
 
+pub read_any_of-returns-then-not-is_object-clause-err : goal.read_any_of-returns-then-not-is_object-clause-err
+read_any_of-returns-then-not-is_object-clause-err t c = read-no_object any_of_schema _ (sym c.is_object.ensures ∙ c.if-not-is_object.true)
+
 pub read_any_of-returns-in_err-items-clause-err : goal.read_any_of-returns-in_err-items-clause-err
 read_any_of-returns-in_err-items-clause-err t c = passes_on _ _ _ _ c.from_residual.ensures.1 c.in_err-items.ensures.err (λ h. table_refused any_of_schema _ (fields-first _ _ _ h))
 
@@ -962,6 +971,9 @@ read_any_of-returns-clause-ok t c = if_ok _ _ c.any_of_rest.result c.any_of_rest
 pub read_any_of-returns-clause-at_least : goal.read_any_of-returns-clause-at_least
 read_any_of-returns-clause-at_least t c = counted_as any_of_doc c.any_of_rest.result c.args.readings.now c.read_items_of.new.readings (schema_count (places_doc schema_doc c.in_ok-items.items))
     (if_ok _ _ c.any_of_rest.result c.any_of_rest.ensures.kept (λ o k. any_of_counts o ∙ ap (λ v. schema_count (places_doc schema_doc v)) k)) c.in_ok-items.ensures.at_least
+
+pub array_without_content-returns-then-not-is_object-clause-err : goal.array_without_content-returns-then-not-is_object-clause-err
+array_without_content-returns-then-not-is_object-clause-err t c = read-no_object array_schema _ (sym c.is_object.ensures ∙ c.if-not-is_object.true)
 
 pub array_without_content-returns-in_err-items-clause-err : goal.array_without_content-returns-in_err-items-clause-err
 array_without_content-returns-in_err-items-clause-err t c = passes_on _ _ _ _ c.from_residual.ensures.1 c.in_err-items.ensures.err (λ h. table_refused array_schema _ (join-later array_head_rows _ _ (fields-first _ _ _ h)))

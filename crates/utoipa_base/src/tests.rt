@@ -1,5 +1,0 @@
-mod compare;
-mod extensions;
-mod numbers;
-mod references;
-mod trees;

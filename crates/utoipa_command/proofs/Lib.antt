@@ -1,0 +1,4 @@
+pub mod Trees
+pub mod Exact
+pub mod Told
+pub mod Served

@@ -1,0 +1,73 @@
+//! The answer of a command to a text.
+ghost use Rattle.std.specs.Prelude.{◌≡◌, ◌≢◌, false, Some, IfOk, IfErr};
+ghost use Rattle.serde_json.specs.View.{view};
+ghost use Rattle.serde_json.specs.Written.{has_float};
+ghost use Rattle.utoipa_command.specs.Answers.{tree_of, rewritten, answer_of, line_of, HasNoTree, IsAnswer, IsAnswerToTree, IsCause, IsCauseInTree};
+
+use crate::command::Command;
+use crate::refusal::Refusal;
+use serde_json::Value;
+use std::alloc::Global;
+use utoipa_base::laws::stays_plain;
+use utoipa_base::{RefOr, Tree};
+use utoipa_leaf::server::Server;
+use utoipa_schema::Schema;
+
+/// The line with which the command answers a text.
+pub fn answer(alloc: Global, command: Command, text: &[u8]) -> Result<Vec<u8>, Refusal>
+    ensures ok { IfOk result (λ line. IsAnswer command text.now line.items) }
+    ensures err { IfErr result (IsCause command text.now) }
+{
+    match parsed(alloc, text) {
+        Ok(tree) => answer_to_tree(alloc, command, tree),
+        Err(refusal) => Err(refusal),
+    }
+}
+
+// The tree of a text.
+fn parsed(alloc: Global, text: &[u8]) -> Result<Value, Refusal>
+    ensures ok { IfOk result (λ tree. tree_of text.now ≡ Some (view tree)) }
+    ensures err { IfErr result (λ w. w ≢ Refusal.Memory → w ≡ Refusal.Text) }
+    ensures text { IfErr result (λ w. w ≡ Refusal.Text → HasNoTree text.now) }
+{
+    match Value::from_slice(alloc, text) {
+        Ok(tree) => Ok(tree),
+        Err(e) if e.is_memory() => Err(Refusal::Memory),
+        Err(_) => Err(Refusal::Text),
+    }
+}
+
+fn answer_to_tree(alloc: Global, command: Command, tree: Value) -> Result<Vec<u8>, Refusal>
+    ensures ok { IfOk result (λ line. IsAnswerToTree (view tree) (answer_of command (view tree)) line.items) }
+    ensures err { IfErr result (IsCauseInTree (view tree) (answer_of command (view tree))) }
+{
+    match command {
+        Command::Server => rewritten::<Server>(alloc, tree),
+        Command::Schema => rewritten::<RefOr<Schema>>(alloc, tree),
+    }
+}
+
+// Reads a document of the type and writes it. At most two of the tree, the document and the tree that is written of it
+// are held at a time.
+fn rewritten<T: Tree>(alloc: Global, tree: Value) -> Result<Vec<u8>, Refusal>
+    ensures ok { IfOk result (λ line. IsAnswerToTree (view tree) (rewritten T.kind (view tree)) line.items) }
+    ensures err { IfErr result (IsCauseInTree (view tree) (rewritten T.kind (view tree))) }
+{
+    stays_plain::<T>(&tree);
+    let document = T::from_value(alloc, &tree)?;
+    drop(tree);
+    let written = document.to_value(alloc)?;
+    drop(document);
+    line(alloc, &written)
+}
+
+// The line of a tree.
+fn line(alloc: Global, tree: &Value) -> Result<Vec<u8>, Refusal>
+    requires { has_float (view tree.now) ≡ false }
+    ensures ok { IfOk result (λ line. line.items ≡ line_of (view tree.now)) }
+    ensures err { IfErr result (λ w. w ≡ Refusal.Memory) }
+{
+    let mut line = tree.to_vec(alloc)?;
+    line.push(b'\n')?;
+    Ok(line)
+}

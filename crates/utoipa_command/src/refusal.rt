@@ -1,0 +1,81 @@
+//! Why a run is refused, and the line that says so.
+ghost use Rattle.std.specs.Prelude.{◌≡◌};
+ghost use Rattle.utoipa_command.specs.Messages.{refusal_line, refusal_of};
+ghost use Rattle.utoipa_command.specs.declared.refusal.Refusal.TheVariants.{Memory};
+
+use std::alloc::{AllocError, AllocFailed};
+use utoipa_base::ReadFault;
+
+/// Why a run is refused.
+#[derive(Clone, Copy, Debug, PartialEq, Eq)]
+pub enum Refusal {
+    /// Memory ran out.
+    Memory,
+    /// Reading the input failed.
+    Read,
+    /// Writing the answer failed.
+    Write,
+    /// The input is no JSON text.
+    Text,
+    /// A number of the input is neither an `i64` nor a `u64`.
+    Fraction,
+    /// A member that is required is absent.
+    Missing,
+    /// A tree of another kind is required.
+    Kind,
+    /// Another word is required.
+    Word,
+    /// No alternative fits.
+    Alternative,
+}
+
+impl Refusal {
+    /// The line that is written for it.
+    pub fn line(self) -> &'static str
+        ensures { result.now ≡ refusal_line self }
+    {
+        match self {
+            Refusal::Memory => "refused: memory\n",
+            Refusal::Read => "refused: read\n",
+            Refusal::Write => "refused: write\n",
+            Refusal::Text => "refused: text\n",
+            Refusal::Fraction => "refused: fraction\n",
+            Refusal::Missing => "refused: missing\n",
+            Refusal::Kind => "refused: kind\n",
+            Refusal::Word => "refused: word\n",
+            Refusal::Alternative => "refused: alternative\n",
+        }
+    }
+}
+
+impl From<AllocError> for Refusal {
+    ghost from_gives = { λ _ w. w ≡ Memory };
+
+    fn from(_e: AllocError) -> Refusal {
+        Refusal::Memory
+    }
+}
+
+impl<T: Drop> From<AllocFailed<T>> for Refusal {
+    ghost from_gives = { λ _ w. w ≡ Memory };
+
+    fn from(_e: AllocFailed<T>) -> Refusal {
+        Refusal::Memory
+    }
+}
+
+impl From<ReadFault> for Refusal {
+    ghost from_gives = { λ e w. w ≡ refusal_of e };
+
+    fn from(fault: ReadFault) -> Refusal {
+        match fault {
+            ReadFault::Memory => Refusal::Memory,
+            ReadFault::Fraction => Refusal::Fraction,
+            ReadFault::Missing(_) => Refusal::Missing,
+            ReadFault::Kind(_) => Refusal::Kind,
+            ReadFault::Word(_) => Refusal::Word,
+            ReadFault::Alternative => Refusal::Alternative,
+            ReadFault::Text => Refusal::Text,
+        }
+    }
+}

@@ -1,0 +1,5 @@
+mod ExampleTrees
+mod ExamplesLeaves
+mod ExamplesSchemas
+mod ExamplesSecurity
+mod ExamplesPaths

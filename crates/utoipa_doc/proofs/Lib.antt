@@ -1,5 +1,0 @@
-pub mod Trees
-pub mod Exact
-pub mod Told
-pub mod Served
-pub mod Callers

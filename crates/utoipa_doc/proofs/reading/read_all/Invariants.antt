@@ -1,6 +1,0 @@
--- What was read is the text so far.
-use Rattle.std.specs.Io.KnownBytes.{Consumes}
-use Rattle.utoipa_doc.proofs.reading.read_all.Given as goal
-
-abbrev pub invariant-loop : goal.invariant-loop
-invariant-loop g l = Consumes (g.R.Read.remaining l.initial.input) (g.R.Read.remaining l.input) l.text.items

@@ -1,2 +1,0 @@
-mod built;
-mod compared;

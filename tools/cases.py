@@ -1,0 +1,292 @@
+#!/usr/bin/env python3
+"""Writes the cases of crates/utoipa_cases, its files stdin and stdout, which `rt ci` runs and compares.
+
+usage: tools/cases.py [--check]      with --check: writes nothing, and ends with status 1 where a file isn't as it should be
+
+Cases written by hand are in crates/utoipa_cases/tables/*.txt:
+
+    # what the next cases show               printed as it is, in both files
+    CALL                                     the call of the next cases, at the beginning of a line
+      INPUT                                  two spaces, then what the call is given
+      & INPUT                                a second input, of the calls that take two
+      = ANSWER                               the answer, of all inputs since the last one; `=` alone: the input itself, after
+                                             `0 ` where the call runs the command
+
+In an input and an answer, <12*TEXT> is TEXT twelve times. The input of `run-hex` is written with Python's escapes.
+
+The sweeps over the member tables are made here, from the tables of docs/FORMAT.md: each member of each type that is built,
+with a value that fits, absent, null, and with a value of another kind, on the smallest document of its type.
+What is expected is the rule of the member's mark.
+"""
+import ast
+import glob
+import json
+import os
+import re
+import sys
+
+ROOT = os.path.dirname(os.path.dirname(os.path.abspath(__file__)))
+CRATE = os.path.join(ROOT, "crates", "utoipa_cases")
+
+
+class Cases:
+    """The lines of both files."""
+
+    def __init__(self):
+        self.asked, self.answered = [], []
+
+    def say(self, line):
+        self.asked.append(line)
+        self.answered.append(line)
+
+    def add(self, call, given, answer):
+        assert "\t" not in call and "\n" not in given and "\n" not in answer, (call, given)
+        self.asked.append("%s\t%s" % (call, given))
+        self.answered.append(answer)
+
+
+# ---- cases written by hand
+
+
+def repeated(text):
+    return re.sub(r"<(\d+)\*([^<>]*)>", lambda it: it[2] * int(it[1]), text)
+
+
+def hexadecimal(text):
+    return ast.literal_eval("b'''%s'''" % text).hex()
+
+
+def add_by_hand(cases, lines, file):
+    call, inputs = None, []
+    for number, line in enumerate(lines, 1):
+        if not line.strip() or line.startswith("#"):
+            if inputs:
+                sys.exit("%s:%d: an input has no answer" % (file, number - 1))
+            cases.say(line)
+        elif line.startswith("  = ") or line.strip() == "=":
+            for given in inputs:
+                itself = ("0 " if call.split(" ")[0] in ("run", "steps") else "") + given
+                cases.add(call, given, repeated(line[4:]) if line.startswith("  = ") else itself)
+            inputs = []
+        elif line.startswith("  & "):
+            inputs[-1] += "\t" + repeated(line[4:])
+        elif line.startswith("  "):
+            given = line[2:]
+            inputs.append(hexadecimal(given) if call.startswith("run-hex") else repeated(given))
+        else:
+            call = line
+
+
+# ---- the member tables of docs/FORMAT.md
+
+
+def cells_of(line):
+    return [it.strip() for it in line.strip().strip("|").split("|")]
+
+
+def tables_of(text):
+    """The rows of each type, each a member, its mark and its kind."""
+    tables, name = {}, None
+    for line in text.split("## Member tables")[1].split("\n## Words")[0].split("\n"):
+        cells = cells_of(line)
+        if len(cells) == 4 and cells[1] in ("required", "optional", "nullable", "defaulted"):
+            name = re.match(r"`(\w+)`", cells[0])[1] if cells[0] else name
+            members = re.findall(r"`([^`]+)`(?: → `[^`]+`)?", cells[3])
+            tables.setdefault(name, []).extend((it, cells[1], cells[2]) for it in members)
+    return tables
+
+
+def words_of(text):
+    words = {}
+    for line in text.split("\n## Words")[1].split("\n## ")[0].split("\n"):
+        cells = cells_of(line)
+        if len(cells) == 2 and cells[0].startswith("`"):
+            words[cells[0].strip("`")] = cells[1].split(", ")
+    return words
+
+
+# The types that are built and read by a table of their own. MutualTls serves a variant of SecurityScheme.
+SWEPT = """Ref Info Contact License ExternalDocs Server ServerVariable Tag Xml Example Object Array OneOf AllOf AnyOf
+    Discriminator ApiKeyValue Http OpenIdConnect MutualTls OAuth2 Scopes Implicit Password ClientCredentials
+    AuthorizationCode DeviceAuthorization""".split()
+
+WITHOUT_EXTENSIONS = ("Ref", "Xml", "Scopes")
+
+# For each kind a value that fits, one that doesn't, and how that is refused; None where no fault is promised.
+PLAIN = {
+    "text": ("t", 5, "kind"),
+    "flag": (True, "true", "kind"),
+    "whole": (18446744073709551615, -1, "kind"),
+    "number": (-9223372036854775808, "1", "kind"),
+    "any": ({"b": [None, -1]}, None, None),
+    "version": ("3.2.0", 5, "kind"),
+    "SchemaType": (["string", "null"], 5, None),
+    "SchemaFormat": ("int32", 5, "kind"),
+    "Schema": ({"type": "string"}, 5, "alternative"),
+    "ArrayItems": (False, 5, None),
+    "AdditionalProperties": ({"$ref": "#/a"}, 5, None),
+    "flows": ({"k": {"scopes": {}, "tokenUrl": "t"}}, 5, "kind"),
+}
+
+
+class Format:
+    def __init__(self, text):
+        self.tables, self.words = tables_of(text), words_of(text)
+
+    def smallest(self, name):
+        return {it: self.fitting(kind) for it, mark, kind in self.tables[name] if mark == "required"}
+
+    def of(self, kind):
+        """A value that fits the kind, one that doesn't, and how that is refused."""
+        if kind.startswith("list of "):
+            return [self.fitting(kind[8:])], 5, "kind"
+        if kind.startswith("map of "):
+            return {"k": self.fitting(kind[7:])}, 5, "kind"
+        if kind.startswith("ref or "):
+            return {"$ref": "#/a"}, 5, self.of(kind[7:])[2]
+        if kind in self.words:
+            return self.words[kind][-1], 5, "kind"
+        if kind in PLAIN:
+            return PLAIN[kind]
+        return self.written(kind, self.smallest(kind)), 5, "kind"
+
+    def fitting(self, kind):
+        return self.of(kind)[0]
+
+    def written(self, name, tree):
+        """What is written for a tree that is read: null where a nullable member is absent."""
+        return {**{it: None for it, mark, _ in self.tables[name] if mark == "nullable"}, **tree}
+
+
+def text_of(tree):
+    return json.dumps(ordered(tree), separators=(",", ":"), ensure_ascii=False)
+
+
+def ordered(tree):
+    """The tree with its members in the order of the bytes of their names."""
+    if isinstance(tree, dict):
+        return {it: ordered(tree[it]) for it in sorted(tree, key=lambda it: it.encode())}
+    return [ordered(it) for it in tree] if isinstance(tree, list) else tree
+
+
+# ---- the sweeps
+
+
+def has_default(kind, value):
+    return value in ("", [], {}) or (kind == "flag" and value is False)
+
+
+class Sweep:
+    """The cases of one type, over its table."""
+
+    def __init__(self, cases, form, name):
+        self.cases, self.name, self.rows = cases, name, form.tables[name]
+        self.form, self.type, self.fixed = form, name, {}
+        if name == "MutualTls":
+            self.type, self.fixed = "SecurityScheme", {"type": "mutualTLS"}
+        self.smallest = {**form.smallest(name), **self.fixed}
+
+    def is_read(self, tree, document):
+        self.cases.add("read " + self.type, text_of(tree), text_of(self.form.written(self.name, document)))
+
+    def is_refused(self, tree, word):
+        call = "read " if word else "fits "
+        self.cases.add(call + self.type, text_of(tree), "refused: " + word if word else "no")
+
+    def others(self, member):
+        return {it: value for it, value in self.smallest.items() if it != member}
+
+    def add(self):
+        self.cases.say("# %s: the smallest, one with all members, and with members that its table doesn't name" % self.name)
+        whole = {**{it: self.form.fitting(kind) for it, _, kind in self.rows}, **self.fixed}
+        kept = {} if self.name in WITHOUT_EXTENSIONS else {"x-": None, "x-a": {"b": [1]}}
+        self.is_read(self.smallest, self.smallest)
+        self.is_read({**whole, "x-": None, "x-a": {"b": [1]}}, {**whole, **kept})
+        self.is_read({**self.smallest, "zzz": 1, "X-a": 2}, self.smallest)
+        for row in self.rows:
+            self.cases.say("# %s, `%s`: %s %s" % (self.name, row[0], row[1], row[2]))
+            self.add_row(*row)
+
+    def add_row(self, member, mark, kind):
+        fitting, other, fault = self.form.of(kind)
+        others = self.others(member)
+        self.is_read({**others, member: fitting}, {**others, member: fitting})
+        if other is not None:
+            self.is_refused({**others, member: other}, fault)
+        if mark == "required":
+            self.is_refused(others, "missing")
+        self.add_null(member, mark, kind, others)
+        self.add_empty(member, mark, kind, others)
+
+    def add_null(self, member, mark, kind, others):
+        """Null is absence of an optional member; else the kind decides."""
+        null = {**others, member: None}
+        if mark in ("optional", "nullable"):
+            self.is_read(null, others)
+        elif kind == "SchemaType":
+            self.is_read(null, null if mark == "required" else others)
+        elif kind == "any":
+            self.is_read(null, null)
+        else:
+            self.is_refused(null, self.form.of(kind)[2])
+
+    def add_empty(self, member, mark, kind, others):
+        """What is empty is written, but at a defaulted member."""
+        shape = kind.split(" ")[0]
+        empty = {"text": "", "flag": False, "list": [], "map": {}, "flows": {}}.get(shape)
+        if empty is not None:
+            tree = {**others, member: empty}
+            self.is_read(tree, others if mark == "defaulted" else tree)
+
+
+def add_words(cases, name, words):
+    cases.say("# %s: its words, and other texts and kinds" % name)
+    for word in words:
+        cases.add("read " + name, text_of(word), text_of(word))
+    for other in ("", words[0].upper(), words[0] + " ", "zzz"):
+        cases.add("read " + name, text_of(other), "refused: word")
+    for tree in (None, 5, True, [words[0]], {words[0]: None}):
+        cases.add("read " + name, text_of(tree), "refused: kind")
+
+
+def add_trees(cases, name):
+    """A table is read from an object alone."""
+    for tree in (None, True, 5, "t", []):
+        cases.add("read " + name, text_of(tree), "refused: kind")
+
+
+def all_cases():
+    cases = Cases()
+    for file in sorted(glob.glob(os.path.join(CRATE, "tables", "*.txt"))):
+        with open(file, encoding="utf-8") as lines:
+            add_by_hand(cases, lines.read().rstrip("\n").split("\n"), file)
+    with open(os.path.join(ROOT, "docs", "FORMAT.md"), encoding="utf-8") as text:
+        form = Format(text.read())
+    for name in SWEPT:
+        sweep = Sweep(cases, form, name)
+        sweep.add()
+        add_trees(cases, sweep.type)
+    for name, words in form.words.items():
+        if name != "OpenApiVersion":
+            add_words(cases, name, words)
+    return cases
+
+
+def main():
+    cases, check, stale = all_cases(), "--check" in sys.argv[1:], False
+    for name, lines in (("stdin", cases.asked), ("stdout", cases.answered)):
+        file, text = os.path.join(CRATE, name), "\n".join(lines) + "\n"
+        if not check:
+            with open(file, "w", encoding="utf-8") as it:
+                it.write(text)
+        else:
+            with open(file, encoding="utf-8") as it:
+                if it.read() != text:
+                    print("%s isn't what tools/cases.py writes" % file)
+                    stale = True
+    print("%d cases" % sum(not it.startswith("#") and it != "" for it in cases.asked))
+    return 1 if stale else 0
+
+
+if __name__ == "__main__":
+    sys.exit(main())
