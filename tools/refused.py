@@ -39,7 +39,7 @@ def type_named(line):
     """Returns what the checker calls an impl or a trait: `impl<T: Tree> Tree for Vec<T>` is VecTree."""
     kind, taken, named = re.match(r"(?:pub )?(impl|trait)(?:<(.*?)>)? (.*?)[:{]", line).groups()
     variables = re.findall(r"(?:^|, )'?(\w+)", taken or "") if kind == "impl" else []
-    of_trait, _, of_type = named.rpartition(" for ")
+    of_trait, _, of_type = named.replace("&", "Ref ").replace("[", "Slice ").rpartition(" for ")
     words = [it for it in re.findall(r"\w+", of_type) + re.findall(r"\w+", of_trait) if it not in variables]
     return "".join(it[0].upper() + it[1:] for it in words)
 
@@ -47,17 +47,23 @@ def type_named(line):
 def functions_of(crate):
     """Returns the function that each line of a crate stands in, by file and index, and the cycle of each that is in one."""
     standing, cycles = {}, {}
-    for path in glob.glob(os.path.join(CRATES, crate, "src/**/*.rt"), recursive=True):
-        file = os.path.relpath(path, os.path.join(CRATES, crate))
-        module = [it for it in file[len("src/"):-len(".rt")].split("/") if it not in ("lib", "main")]
-        of_type, cycle, function, start = [], None, None, 0
-        for at, line in enumerate(lines_of(path)):
+    folder = os.path.join(CRATES, crate)
+    files = {os.path.relpath(it, folder): lines_of(it) for it in glob.glob(folder + "/src/**/*.rt", recursive=True)}
+    modules = {it: [part for part in it[len("src/"):-len(".rt")].split("/") if part not in ("lib", "main")] for it in files}
+    types = {}
+    for file, lines in files.items():
+        types.update((it[1], modules[file]) for it in map(re.compile(r"(?:pub )?(?:struct|enum) (\w+)").match, lines) if it)
+    for file, lines in files.items():
+        above, cycle, function, start = None, None, None, 0
+        for at, line in enumerate(lines):
             if re.match(r"(pub )?(impl|trait)\b", line):
-                of_type = [type_named(line)]
+                name = type_named(line)
+                # a type's own functions are named by the module that the type stands in
+                above = [*(modules[file] if " for " in line else types.get(name, modules[file])), name]
             cycle = (re.match(r"\s*#\[cycle\((\w+)\)\]", line) or [None, cycle])[1]
             found = re.match(r"( *)(?:pub(?:\(\w+\))? )?(?:const |final )?fn (\w+)", line)
             if found:
-                function = "::".join(module + of_type * bool(found[1]) + [found[2]])
+                function = "::".join([*(above or modules[file]), found[2]])
                 cycles.update({function: cycle} if cycle else {})
                 cycle = None
                 # what stands above a function in its impl belongs to it
@@ -66,7 +72,7 @@ def functions_of(crate):
                 standing[file, at] = function
                 start = at + 1
             if line.startswith("}"):
-                of_type, function, start = [], None, at + 1
+                above, function, start = None, None, at + 1
     return standing, cycles
 
 

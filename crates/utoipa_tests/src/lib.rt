@@ -1,0 +1,46 @@
+//! What needs code to be tested: builders, conversions, comparisons, copies, and memory that is refused. What can be
+//! told as an input and an output is a line of the table of cases of `utoipa_cases`.
+#![tactic(auto)]
+
+#[cfg(test)]
+mod combinations;
+#[cfg(test)]
+mod command;
+#[cfg(test)]
+mod compared;
+#[cfg(test)]
+mod conversions;
+#[cfg(test)]
+mod example;
+#[cfg(test)]
+mod extensions;
+#[cfg(test)]
+mod info;
+#[cfg(test)]
+mod numbers;
+#[cfg(test)]
+mod references;
+#[cfg(test)]
+mod rows;
+#[cfg(test)]
+mod schema_arrays;
+#[cfg(test)]
+mod schema_objects;
+#[cfg(test)]
+mod schema_parts;
+#[cfg(test)]
+mod schema_words;
+#[cfg(test)]
+mod security_flows;
+#[cfg(test)]
+mod security_schemes;
+#[cfg(test)]
+mod server;
+#[cfg(test)]
+mod shared;
+#[cfg(test)]
+mod tag;
+#[cfg(test)]
+mod words;
+#[cfg(test)]
+mod xml;

@@ -1,0 +1,57 @@
+//! References: from names, by the builder, and in the place of a value.
+use crate::shared::{is_written, is_written_first, text};
+use serde_json::Value;
+use std::process::Abort;
+use utoipa_base::{Ref, RefBuilder, RefOr};
+
+fn place(reference: Ref) -> RefOr<Value> {
+    RefOr::from(reference)
+}
+
+#[test]
+fn references_are_made_from_names(rt: HostRuntime) {
+    is_written(
+        &rt,
+        Ref::new(rt.alloc(), text(&rt, "#/a")),
+        "{\"$ref\":\"#/a\"}",
+    );
+    let schema = Ref::from_schema_name(rt.alloc(), "A").expect(&rt, "memory for a reference");
+    is_written(&rt, place(schema), "{\"$ref\":\"#/components/schemas/A\"}");
+    let response = Ref::from_response_name(rt.alloc(), "A").expect(&rt, "memory for a reference");
+    is_written(&rt, response, "{\"$ref\":\"#/components/responses/A\"}");
+}
+
+fn begun(rt: &(impl Abort + AllocGlobal)) -> RefBuilder {
+    let named = Ref::builder(rt.alloc()).ref_location_from_schema_name(rt.alloc(), "A");
+    named.expect(rt, "memory for a location")
+}
+
+#[test]
+fn a_builder_sets_every_member(rt: HostRuntime) {
+    let built = begun(&rt)
+        .description(rt.alloc(), Some(text(&rt, "d")))
+        .summary(text(&rt, "s"))
+        .read_only(true)
+        .write_only(false)
+        .default(Some(Value::from(1u64)))
+        .title(Some(text(&rt, "t")))
+        .build();
+    let all =
+        "{\"$ref\":\"#/components/schemas/A\",\"default\":1,\"description\":\"d\",\"readOnly\":true,\"summary\":\"s\",\"title\":\"t\",\"writeOnly\":false}";
+    is_written_first(&rt, &built, all);
+    let moved = RefBuilder::from(built)
+        .ref_location(text(&rt, "#/b"))
+        .description(rt.alloc(), None)
+        .default(None)
+        .title(None);
+    let left = "{\"$ref\":\"#/b\",\"readOnly\":true,\"summary\":\"s\",\"writeOnly\":false}";
+    is_written(&rt, Ref::from(moved), left);
+}
+
+#[test]
+fn a_builder_stands_in_the_place_of_a_value(rt: HostRuntime) {
+    is_written(&rt, RefBuilder::new(rt.alloc()).build(), "{\"$ref\":\"\"}");
+    let builder = RefBuilder::new(rt.alloc()).ref_location(text(&rt, "#/a"));
+    let place: RefOr<Value> = RefOr::from(builder);
+    is_written(&rt, place, "{\"$ref\":\"#/a\"}");
+}

@@ -1,0 +1,23 @@
+//! Schemas, and values in them, that the tests of schemas are made of.
+use serde_json::Value;
+use std::process::Abort;
+use utoipa_base::RefOr;
+use utoipa_schema::{Object, Schema};
+use utoipa_schema_words::{SchemaType, TypeWord};
+
+pub fn two_values(rt: &(impl Abort + AllocGlobal)) -> std::vec::IntoIter<Value> {
+    let values = Vec::from_array(rt.alloc(), [Value::from(1u64), Value::from(2u64)]);
+    values.expect(rt, "memory for two values").into_iter()
+}
+
+pub fn single(word: TypeWord) -> SchemaType {
+    SchemaType::Single(word)
+}
+
+pub fn schema_of(rt: &(impl Abort + AllocGlobal), word: TypeWord) -> Schema {
+    Schema::Object(Object::with_type(rt.alloc(), single(word)))
+}
+
+pub fn place_of(rt: &(impl Abort + AllocGlobal), word: TypeWord) -> RefOr<Schema> {
+    RefOr::T(schema_of(rt, word))
+}

@@ -1,0 +1,161 @@
+//! The flows of OAuth as they are made, by what they are written as.
+use crate::shared::{extension, is_written, text};
+use std::process::Abort;
+use utoipa_base::{Deprecated, Tree};
+use utoipa_security::security::{
+    AuthorizationCode, ClientCredentials, DeviceAuthorization, Flow, Implicit, OAuth2, Password,
+    Scopes, SecurityScheme,
+};
+
+fn one_scope(rt: &(impl Abort + AllocGlobal)) -> Scopes {
+    Scopes::one(rt.alloc(), text(rt, "a"), text(rt, "b")).expect(rt, "a scope")
+}
+
+fn no_scopes(rt: &(impl Abort + AllocGlobal)) -> Scopes {
+    Scopes::new(rt.alloc())
+}
+
+// That a scheme of a copy of the flow is written as the JSON text.
+fn is_scheme(rt: &(impl Abort + AllocGlobal), flow: Flow, json: &str) {
+    let copy = flow.try_clone(rt.alloc()).expect(rt, "a copy");
+    drop(flow);
+    let scheme = OAuth2::new(rt.alloc(), Some(copy).into_iter());
+    is_written(rt, scheme.expect(rt, "a scheme"), json);
+}
+
+#[test]
+fn the_later_of_two_equal_scopes_stays(rt: HostRuntime) {
+    let mut pairs = Vec::new(rt.alloc());
+    for (scope, description) in [("b", "1"), ("a", "2"), ("b", "3")] {
+        let pair = (text(&rt, scope), text(&rt, description));
+        pairs.push(pair).expect(&rt, "a pair");
+    }
+    let scopes = Scopes::from_pairs(rt.alloc(), pairs.into_iter());
+    is_written(
+        &rt,
+        scopes.expect(&rt, "scopes"),
+        r#"{"scopes":{"a":"2","b":"3"}}"#,
+    );
+}
+
+#[test]
+fn scopes_are_compared(rt: HostRuntime) {
+    let one = one_scope(&rt);
+    assert!(rt; one == one.try_clone(rt.alloc()).expect(&rt, "a copy"));
+    assert!(rt; one != no_scopes(&rt));
+    is_written(&rt, one, r#"{"scopes":{"a":"b"}}"#);
+}
+
+#[test]
+fn a_flow_by_one_url_is_made(rt: HostRuntime) {
+    let mut implicit = Implicit::new(text(&rt, "u"), no_scopes(&rt));
+    implicit.extensions = extension(&rt);
+    is_scheme(
+        &rt,
+        Flow::Implicit(implicit),
+        r#"{"flows":{"implicit":{"authorizationUrl":"u","scopes":{},"x-a":1}}}"#,
+    );
+    let password = Password::new(text(&rt, "t"), no_scopes(&rt));
+    is_written(&rt, password, r#"{"scopes":{},"tokenUrl":"t"}"#);
+    let credentials = ClientCredentials::new(text(&rt, "t"), no_scopes(&rt));
+    is_written(&rt, credentials, r#"{"scopes":{},"tokenUrl":"t"}"#);
+}
+
+#[test]
+fn a_flow_by_two_urls_is_made(rt: HostRuntime) {
+    let code = AuthorizationCode::new(text(&rt, "u"), text(&rt, "t"), one_scope(&rt));
+    is_written(
+        &rt,
+        code,
+        r#"{"authorizationUrl":"u","scopes":{"a":"b"},"tokenUrl":"t"}"#,
+    );
+    let device = DeviceAuthorization::new(text(&rt, "u"), text(&rt, "t"), no_scopes(&rt));
+    is_written(
+        &rt,
+        device,
+        r#"{"deviceAuthorizationUrl":"u","scopes":{},"tokenUrl":"t"}"#,
+    );
+}
+
+#[test]
+fn a_refreshed_flow_by_one_url_stands_under_its_key(rt: HostRuntime) {
+    let implicit = Implicit::with_refresh_url(text(&rt, "u"), one_scope(&rt), text(&rt, "r"));
+    is_scheme(
+        &rt,
+        Flow::Implicit(implicit),
+        r#"{"flows":{"implicit":{"authorizationUrl":"u","refreshUrl":"r","scopes":{"a":"b"}}}}"#,
+    );
+    let password = Password::with_refresh_url(text(&rt, "t"), one_scope(&rt), text(&rt, "r"));
+    is_scheme(
+        &rt,
+        Flow::Password(password),
+        r#"{"flows":{"password":{"refreshUrl":"r","scopes":{"a":"b"},"tokenUrl":"t"}}}"#,
+    );
+    let credentials = ClientCredentials::with_refresh_url(
+        text(&rt, "t"),
+        one_scope(&rt),
+        text(&rt, "r"),
+    );
+    is_scheme(
+        &rt,
+        Flow::ClientCredentials(credentials),
+        r#"{"flows":{"clientCredentials":{"refreshUrl":"r","scopes":{"a":"b"},"tokenUrl":"t"}}}"#,
+    );
+}
+
+#[test]
+fn a_refreshed_flow_by_two_urls_stands_under_its_key(rt: HostRuntime) {
+    let code = AuthorizationCode::with_refresh_url(
+        text(&rt, "https://localhost/authorization/token"),
+        text(&rt, "https://localhost/token/url"),
+        no_scopes(&rt),
+        text(&rt, "https://localhost/refresh/token"),
+    );
+    is_scheme(
+        &rt,
+        Flow::AuthorizationCode(code),
+        r#"{"flows":{"authorizationCode":{"authorizationUrl":"https://localhost/authorization/token","refreshUrl":"https://localhost/refresh/token","scopes":{},"tokenUrl":"https://localhost/token/url"}}}"#,
+    );
+    let device = DeviceAuthorization::with_refresh_url(
+        text(&rt, "u"),
+        text(&rt, "t"),
+        one_scope(&rt),
+        text(&rt, "r"),
+    );
+    is_scheme(
+        &rt,
+        Flow::DeviceAuthorization(device),
+        r#"{"flows":{"deviceAuthorization":{"deviceAuthorizationUrl":"u","refreshUrl":"r","scopes":{"a":"b"},"tokenUrl":"t"}}}"#,
+    );
+}
+
+#[test]
+fn a_later_flow_of_a_kind_stands(rt: HostRuntime) {
+    let mut flows = Vec::new(rt.alloc());
+    for url in ["a", "b"] {
+        let flow = Flow::Implicit(Implicit::new(text(&rt, url), no_scopes(&rt)));
+        flows.push(flow).expect(&rt, "a flow");
+    }
+    let scheme = OAuth2::new(rt.alloc(), flows.into_iter());
+    is_written(
+        &rt,
+        scheme.expect(&rt, "a scheme"),
+        r#"{"flows":{"implicit":{"authorizationUrl":"b","scopes":{}}}}"#,
+    );
+}
+
+#[test]
+fn each_setter_of_an_oauth2_scheme_sets_its_member(rt: HostRuntime) {
+    let alloc = rt.alloc();
+    let none: Vec<Flow> = Vec::new(alloc);
+    let mut scheme = OAuth2::with_description(alloc, none.into_iter(), text(&rt, "d"))
+        .expect(&rt, "a scheme")
+        .with_metadata_url(text(&rt, "m"))
+        .deprecated(Some(Deprecated::True));
+    scheme.extensions = extension(&rt);
+    is_written(
+        &rt,
+        SecurityScheme::OAuth2(scheme),
+        r#"{"deprecated":true,"description":"d","flows":{},"oauth2MetadataUrl":"m","type":"oauth2","x-a":1}"#,
+    );
+}

@@ -1,0 +1,78 @@
+//! What the tests share. Nothing here answers an error: a test ends where something fails. So no function has an exit
+//! on which its values are dropped, and it is those that take the time of a proof. Each assertion that recurs is a
+//! function, since a call of one is proved sooner than the assertion.
+use serde_json::Value;
+use std::process::Abort;
+use utoipa_base::{Extensions, ReadFault, Readings, Tree};
+
+pub fn text(rt: &(impl Abort + AllocGlobal), word: &str) -> String {
+    String::from_str(rt.alloc(), word).expect(rt, "memory for a text")
+}
+
+pub fn tree(rt: &(impl Abort + AllocGlobal), json: &str) -> Value {
+    Value::from_str(rt.alloc(), json).expect(rt, "a tree")
+}
+
+/// What a text reads as. An extension may hold a fraction.
+pub fn read<T: Tree>(rt: &(impl Abort + AllocGlobal), json: &str) -> T {
+    let tree = tree(rt, json);
+    T::read_plain(rt.alloc(), &tree, &mut Readings::new()).expect(rt, "a value")
+}
+
+/// The extension `x-a`, which is 1.
+pub fn extension(rt: &(impl Abort + AllocGlobal)) -> Option<Extensions> {
+    let builder = Extensions::builder(rt.alloc());
+    let name = text(rt, "x-a");
+    let added = builder.add(rt.alloc(), name, Value::from(1u64));
+    Some(added.expect(rt, "memory for an extension").build())
+}
+
+/// The value is written as the text, and so is a copy of it.
+pub fn is_written<T: Tree>(rt: &(impl Abort + AllocGlobal), value: T, json: &str) {
+    is_written_first(rt, &value, json);
+}
+
+/// The same of a value that something is still done with.
+pub fn is_written_first<T: Tree>(rt: &(impl Abort + AllocGlobal), value: &T, json: &str) {
+    is_printed(rt, value, json);
+    let copy = value.try_clone(rt.alloc()).expect(rt, "memory for a copy");
+    is_printed(rt, &copy, json);
+}
+
+/// Reading came to a value that is written as the text, or to a fault that has the text.
+pub fn came_to<T: Tree>(
+    rt: &(impl Abort + AllocGlobal),
+    outcome: Result<T, ReadFault>,
+    expected: &str,
+) {
+    match outcome {
+        Ok(value) => is_written(rt, value, expected),
+        Err(fault) => {
+            let told = format!(in rt.alloc(); "{fault}");
+            is_text(rt, told.expect(rt, "memory for a text").as_str(), expected);
+        }
+    }
+}
+
+fn is_printed<T: Tree>(rt: &(impl Abort + AllocGlobal), value: &T, json: &str) {
+    let tree = value.to_value(rt.alloc()).expect(rt, "memory for a tree");
+    is_tree(rt, tree, json);
+}
+
+/// The tree has the text.
+pub fn is_tree(rt: &(impl Abort + AllocGlobal), tree: Value, json: &str) {
+    let printed = tree.to_string(rt.alloc()).expect(rt, "memory for a text");
+    is_text(rt, printed.as_str(), json);
+}
+
+pub fn is_text(rt: &impl Abort, found: &str, expected: &str) {
+    assert_eq!(rt; found, expected);
+}
+
+pub fn is_number(rt: &impl Abort, found: u64, expected: u64) {
+    assert_eq!(rt; found, expected);
+}
+
+pub fn is_flag(rt: &impl Abort, found: bool, expected: bool) {
+    assert_eq!(rt; found, expected);
+}
