@@ -25,30 +25,44 @@ def read(path):
         return ""
 
 
-def provers():
-    """Each prover that runs: its process, what it works on, and its seconds of the processor."""
+def processes():
+    """Each process: its parent, and its seconds of the processor with those of its children that have ended."""
+    found = {}
     for pid in filter(str.isdigit, os.listdir("/proc")):
-        words = read("/proc/%s/cmdline" % pid).split("\0")
-        if not words[0].endswith("/rattle") or "--crate-name" not in words:
-            continue
-        try:
-            folder = os.readlink("/proc/%s/cwd" % pid)
-        except OSError:
-            continue
-        kind = "edits" if "rt-edit" in folder else "tests" if "--test" in words else "proof"
         numbers = read("/proc/%s/stat" % pid).rpartition(")")[2].split()
-        if len(numbers) > 12:
-            yield pid, (words[words.index("--crate-name") + 1], kind), (int(numbers[11]) + int(numbers[12])) / TICKS
+        if len(numbers) > 14:
+            found[pid] = numbers[1], sum(map(int, numbers[11:15])) / TICKS
+    return found
+
+
+def work_of(pid):
+    """The crate that a prover works on, and what it does there, or None of another process."""
+    words = read("/proc/%s/cmdline" % pid).split("\0")
+    if not words[0].endswith("/rattle") or "--crate-name" not in words:
+        return None
+    try:
+        folder = os.readlink("/proc/%s/cwd" % pid)
+    except OSError:
+        return None
+    kind = "edits" if "rt-edit" in folder else "tests" if "--test" in words else "proof"
+    return words[words.index("--crate-name") + 1], kind
 
 
 def watch(spans, seconds, is_over):
-    """Notes when each work was seen first and last, and the most seconds of each of its processes."""
+    """Notes when each work was seen first and last, and the most seconds of each prover, its copies of itself included."""
     while not is_over.wait(1):
-        now = time.time()
-        for pid, work, used in provers():
+        now, found = time.time(), processes()
+        works = {pid: work for pid in found for work in [work_of(pid)] if work}
+        used = {}
+        for pid, work in works.items():
             first, _ = spans.get(work, (now, now))
             spans[work] = (first, now)
-            seconds[work, pid] = max(used, seconds.get((work, pid), 0))
+            top = pid
+            while found[top][0] in works:
+                top = found[top][0]
+            used[work, top] = used.get((work, top), 0) + found[pid][1]
+        for key, most in used.items():
+            seconds[key] = max(most, seconds.get(key, 0))
 
 
 def main():
