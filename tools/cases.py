@@ -12,7 +12,7 @@ Cases written by hand are in crates/utoipa_cases/tables/*.txt:
       = ANSWER                               the answer, of all inputs since the last one; `=` alone: the input itself, after
                                              `0 ` where the call runs the command
 
-In an input and an answer, <12*TEXT> is TEXT twelve times. The input of `run-hex` is written with Python's escapes.
+In a line, <12*TEXT> is TEXT twelve times, and <0*> nothing. The input of `run-hex` is written with Python's escapes.
 
 The sweeps over the member tables are made here, from the tables of docs/FORMAT.md: each member of each type that is built,
 with a value that fits, absent, null, and with a value of another kind, on the smallest document of its type.
@@ -74,7 +74,7 @@ def add_by_hand(cases, lines, file):
             given = line[2:]
             inputs.append(hexadecimal(given) if call.startswith("run-hex") else repeated(given))
         else:
-            call = line
+            call = repeated(line)
 
 
 # ---- the member tables of docs/FORMAT.md

@@ -1,6 +1,6 @@
 //! Answers each line of standard input: a call, a tab, and what the call is given.
 //!
-//! A line that begins with `#` says what the next ones show, and is printed as it is; an empty line too. The calls:
+//! A line without a tab is printed as it is: one that begins with `#` says what the next ones show. The calls:
 //!
 //! | Call | Given | Answer |
 //! |---|---|---|

@@ -1,4 +1,6 @@
 //! Rows of a member table, read by their mark, and the counter of readings.
+ghost use Rattle.std.specs.Prelude.{◌≡◌};
+
 use crate::shared::{came_to, is_flag, is_number, is_text, is_written, text, tree};
 use serde_json::Value;
 use std::process::Abort;
@@ -57,11 +59,27 @@ fn an_empty_text_is_left_out(rt: HostRuntime) {
     is_flag(&rt, text(&rt, "a").is_left_out(), false);
 }
 
+// The greatest counter takes 2^64 readings, so that it stands still is learnt from the contract of a tick alone.
+fn stay_at_the_greatest(readings: &mut Readings)
+    requires { readings.old ≡ u64.MAX }
+    ensures { readings.new ≡ u64.MAX }
+{
+    readings.tick();
+}
+
+fn tick(readings: &mut Readings) {
+    if readings.number() == u64::MAX {
+        stay_at_the_greatest(readings);
+    } else {
+        readings.tick();
+    }
+}
+
 #[test]
 fn each_tick_is_a_reading(rt: HostRuntime) {
     let mut readings = Readings::new();
     is_number(&rt, readings.number(), 0);
-    readings.tick();
-    readings.tick();
+    tick(&mut readings);
+    tick(&mut readings);
     is_number(&rt, readings.number(), 2);
 }
