@@ -10,6 +10,9 @@ pub mod Empties
 pub mod Numerals
 pub mod SameDocs
 pub mod ByWords
+pub mod RowLists
+pub mod ReadingLists
+pub mod ReadingMaps
 pub mod Results
 pub mod WrittenMembers
 pub mod Alternatives

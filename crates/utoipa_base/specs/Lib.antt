@@ -14,6 +14,8 @@ pub mod WellFormed
 pub mod Values
 pub mod Fields
 pub mod Faults
+pub mod Reads
+pub mod Rows
 pub mod Views
 pub mod Refs
 pub mod OfKind

@@ -1,13 +1,13 @@
 //! Values that a defaulted member leaves out.
-ghost use Rattle.std.specs.Prelude.{◌≡◌, ◌≤◌, ◌<◌, ◌+◌, Some, OnOk, IfOk, IfErr};
+ghost use Rattle.std.specs.Prelude.{◌≡◌, OnOk, OnErr};
 ghost use Rattle.serde_json.specs.Find.{get};
 ghost use Rattle.serde_json.specs.View.{view, members_view};
 ghost use Rattle.utoipa_base.specs.Kinds.{defaulted};
-ghost use Rattle.utoipa_base.specs.Faults.{Refuses};
 ghost use Rattle.utoipa_base.specs.Fields.{field, put_field};
 ghost use Rattle.utoipa_base.specs.Reading.{empty_doc};
+ghost use Rattle.utoipa_base.specs.Reads.{Reads};
 ghost use Rattle.utoipa_base.specs.Tables.{row};
-ghost use Rattle.utoipa_base.specs.Values.{values_of, schema_count};
+ghost use Rattle.utoipa_base.specs.Values.{values_of};
 ghost use Rattle.utoipa_base.specs.Writing.{is_empty};
 
 use crate::fault::ReadFault;
@@ -76,7 +76,8 @@ impl<T: Tree> Empty for BTreeMap<String, T> {
     }
 }
 
-/// The value of a defaulted member, empty where it is absent. Null is a value like any other.
+/// The value of a defaulted member, empty where it is absent. Null is a value like any other. Fails as the member's own
+/// reading fails.
 #[tactic(auto, using(crate::proofs::ByRows::by_row, crate::proofs::Values::counts, crate::proofs::Places::places))]
 pub fn row_or_empty<T: Empty>(
     alloc: Global,
@@ -84,12 +85,8 @@ pub fn row_or_empty<T: Empty>(
     name: &'static str,
     readings: &mut Readings,
 ) -> Result<T, ReadFault>
-    ensures ok { IfOk result (λ v. field (row name.now defaulted T.kind) (view tree.now) ≡ Some (T.doc v)) }
-    ensures err { IfErr result (Refuses (field (row name.now defaulted T.kind) (view tree.now))) }
-    ensures grows { readings.old ≤ readings.new }
-    ensures at_most { readings.new ≤ readings.old + values_of (get name.now (view tree.now)) }
-    ensures at_least { IfOk result (λ v. readings.new < u64.MAX
-        → readings.old + schema_count (T.doc v) ≤ readings.new) }
+    ensures { Reads (field (row name.now defaulted T.kind) (view tree.now)) T.doc result
+        readings.old readings.new (values_of (get name.now (view tree.now))) }
 {
     match tree.get(name) {
         Some(member) => T::read_plain(alloc, member, readings),
@@ -97,7 +94,7 @@ pub fn row_or_empty<T: Empty>(
     }
 }
 
-/// Writes a defaulted member, unless it is empty.
+/// Writes a defaulted member, unless it is empty. Fails where memory runs out; then the members are as they were.
 #[tactic(auto, using(crate::proofs::ByRows::by_row))]
 pub fn write_unless_empty<T: Empty>(
     members: &mut Map<String, Value>,
@@ -105,8 +102,9 @@ pub fn write_unless_empty<T: Empty>(
     name: &'static str,
     value: &T,
 ) -> Result<(), AllocError>
-    ensures { OnOk result (members_view members.new.entries
+    ensures ok { OnOk result (members_view members.new.entries
         ≡ put_field (row name.now defaulted T.kind) (T.doc value.now) (members_view members.old.entries)) }
+    ensures err { OnErr result (members.new.entries ≡ members.old.entries) }
 {
     if value.is_left_out() {
         return Ok(());

@@ -14,9 +14,11 @@ pub mod number;
 pub mod readings;
 pub mod refs;
 pub mod required;
+mod row_lists;
 pub mod rows;
 pub mod same;
 mod scalar;
+pub mod table;
 pub mod tree;
 pub mod words;
 
@@ -41,5 +43,5 @@ pub use rows::{
     write_option, write_required,
 };
 pub use same::{same_members, same_tree};
-pub use tree::Tree;
+pub use tree::{Place, Tree};
 pub use words::{Word, read_word, write_word};

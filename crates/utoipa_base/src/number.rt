@@ -28,13 +28,7 @@ impl Tree for Number {
 
     ghost doc = { number_doc };
 
-    const IS_SCHEMA: bool = false;
-
-    ghost IS_SCHEMA = { false };
-
     ghost is_of_kind = { number_of_kind };
-
-    ghost counts_as_schema = { refl };
 
     fn read_plain(
         _alloc: Global,

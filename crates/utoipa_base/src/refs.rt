@@ -1,22 +1,34 @@
-ghost use Rattle.std.specs.Prelude.{◌≡◌, ◌++◌, [], None, Some, IfOk, IfErr, option_map, string_bytes};
-ghost use Rattle.serde_json.specs.View.{view};
-ghost use Rattle.utoipa_base.specs.Kinds.{text, flag, any, named, reference_object, required, optional, defaulted};
-ghost use Rattle.utoipa_base.specs.Docs.{text_doc, flag_doc};
-ghost use Rattle.utoipa_base.specs.Tables.{row};
-ghost use Rattle.utoipa_base.specs.Faults.{Refuses};
-ghost use Rattle.utoipa_base.specs.Fields.{field};
-ghost use Rattle.utoipa_base.specs.Reading.{read};
-ghost use Rattle.utoipa_base.specs.Refs.{reference_doc};
-ghost use Rattle.utoipa_base.specs.Views.{text_of, tree_of, option_of};
+ghost use Rattle.std.specs.Prelude.{◌≡◌, ◌++◌, [], IfOk, string_bytes};
+ghost use Rattle.utoipa_base.specs.Kinds.{named, ref_or, reference_object};
+ghost use Rattle.utoipa_base.specs.OfKind.{reference_of_kind, ref_or_of_kind};
+ghost use Rattle.utoipa_base.specs.Refs.{reference_doc, ref_or_doc};
 
 use crate::fault::ReadFault;
-use crate::scalar::{read_flag, read_text};
+use crate::readings::Readings;
+use crate::tree::{Place, Tree};
+use crate::{clone_table_alone, read_table_alone, write_table_alone};
 use serde_json::Value;
 use std::alloc::{AllocError, Global};
 
 mod builder;
 
 pub use builder::RefBuilder;
+
+// The rows of a reference, in the order of its member table: mark, member, field.
+macro_rules! ref_rows {
+    ($lines:ident!($($arguments:tt)*)) => {
+        $lines! {
+            $($arguments)*;
+            required "$ref" ref_location,
+            defaulted "description" description,
+            defaulted "summary" summary,
+            optional "readOnly" read_only,
+            optional "writeOnly" write_only,
+            optional "default" default,
+            optional "title" title,
+        }
+    };
+}
 
 /// A Reference Object (OpenAPI 3.1, section 4.8.23): where another component stands.
 #[derive(Debug, Drop)]
@@ -115,110 +127,56 @@ impl<T> From<Ref> for RefOr<T> {
     }
 }
 
-// A trait's method reads references, so the reader below goes through no implementation of that trait: the proof of
-// the trait would otherwise rest on itself.
+/// A Reference Object (OpenAPI 3.1, section 4.8.23).
+#[tactic(auto, using(crate::proofs::Places::places))]
+impl Tree for Ref {
+    ghost kind = { named reference_object };
 
-/// A Reference Object. Nothing is counted, since a reference holds no schema.
-pub(crate) fn read_reference(alloc: Global, tree: &Value) -> Result<Ref, ReadFault>
-    ensures ok { IfOk result (λ r. read (named reference_object) (view tree.now) ≡ Some (reference_doc r)) }
-    ensures err { IfErr result (Refuses (read (named reference_object) (view tree.now))) }
-{
-    if !tree.is_object() {
-        return Err(ReadFault::Kind("Ref"));
+    ghost doc = { reference_doc };
+
+    ghost is_of_kind = { reference_of_kind };
+
+    fn read_plain(alloc: Global, tree: &Value, readings: &mut Readings) -> Result<Ref, ReadFault> {
+        ref_rows!(read_table_alone!(Ref, alloc, tree, readings))
     }
-    let ref_location = required_text(alloc, tree, "$ref")?;
-    let description = text_or_empty(alloc, tree, "description")?;
-    let summary = text_or_empty(alloc, tree, "summary")?;
-    let read_only = optional_flag(tree, "readOnly")?;
-    let write_only = optional_flag(tree, "writeOnly")?;
-    let default = optional_tree(tree, "default")?;
-    let title = optional_text(alloc, tree, "title")?;
-    Ok(Ref {
-        ref_location,
-        description,
-        summary,
-        read_only,
-        write_only,
-        default,
-        title,
-    })
-}
 
-/// A text that has to be there.
-#[tactic(auto, using(crate::proofs::ByRows::by_row))]
-fn required_text(alloc: Global, tree: &Value, name: &'static str) -> Result<String, ReadFault>
-    ensures ok { IfOk result (λ s. field (row name.now required text) (view tree.now) ≡ Some (text_of s)) }
-    ensures err { IfErr result (Refuses (field (row name.now required text) (view tree.now))) }
-{
-    match tree.get(name) {
-        Some(member) => read_text(alloc, member),
-        None => Err(ReadFault::Missing(name)),
+    fn to_value(&self, alloc: Global) -> Result<Value, AllocError> {
+        ref_rows!(write_table_alone!(self, alloc))
+    }
+
+    fn try_clone(&self, alloc: Global) -> Result<Ref, AllocError> {
+        ref_rows!(clone_table_alone!(Ref, self, alloc))
     }
 }
 
-/// A text, empty where it is absent.
-#[tactic(auto, using(crate::proofs::ByRows::by_row))]
-fn text_or_empty(alloc: Global, tree: &Value, name: &'static str) -> Result<String, ReadFault>
-    ensures ok { IfOk result (λ s. field (row name.now defaulted text) (view tree.now) ≡ Some (text_of s)) }
-    ensures err { IfErr result (Refuses (field (row name.now defaulted text) (view tree.now))) }
-{
-    match tree.get(name) {
-        Some(member) => read_text(alloc, member),
-        None => Ok(String::new(alloc)),
-    }
-}
+/// A reference, or else a value in its place.
+#[tactic(auto, using(crate::proofs::Places::by_places))]
+impl<T: Place> Tree for RefOr<T> {
+    ghost kind = { ref_or T.kind };
 
-/// A text, or none where it is absent or null.
-#[tactic(auto, using(crate::proofs::ByRows::by_row))]
-fn optional_text(
-    alloc: Global,
-    tree: &Value,
-    name: &'static str,
-) -> Result<Option<String>, ReadFault>
-    ensures ok { IfOk result (λ o. field (row name.now optional text) (view tree.now) ≡ Some (option_of text_of o)) }
-    ensures err { IfErr result (Refuses (field (row name.now optional text) (view tree.now))) }
-{
-    match tree.get(name) {
-        Some(member) => {
-            if member.is_null() {
-                return Ok(None);
-            }
-            Ok(Some(read_text(alloc, member)?))
+    ghost doc = { ref_or_doc T.kind T.doc };
+
+    ghost is_of_kind = { ref_or_of_kind T.doc T.kind T.is_of_kind };
+
+    fn read_plain(
+        alloc: Global,
+        tree: &Value,
+        readings: &mut Readings,
+    ) -> Result<RefOr<T>, ReadFault> {
+        T::read_ref_or(alloc, tree, readings)
+    }
+
+    fn to_value(&self, alloc: Global) -> Result<Value, AllocError> {
+        match self {
+            RefOr::Ref(reference) => reference.to_value(alloc),
+            RefOr::T(value) => value.to_value(alloc),
         }
-        None => Ok(None),
     }
-}
 
-/// A flag, or none where it is absent or null.
-#[tactic(auto, using(crate::proofs::ByRows::by_row))]
-fn optional_flag(tree: &Value, name: &'static str) -> Result<Option<bool>, ReadFault>
-    ensures ok { IfOk result (λ o. field (row name.now optional flag) (view tree.now) ≡ Some (option_of flag_doc o)) }
-    ensures err { IfErr result (Refuses (field (row name.now optional flag) (view tree.now))) }
-{
-    match tree.get(name) {
-        Some(member) => {
-            if member.is_null() {
-                return Ok(None);
-            }
-            Ok(Some(read_flag(member)?))
+    fn try_clone(&self, alloc: Global) -> Result<RefOr<T>, AllocError> {
+        match self {
+            RefOr::Ref(reference) => Ok(RefOr::Ref(reference.try_clone(alloc)?)),
+            RefOr::T(value) => Ok(RefOr::T(value.try_clone(alloc)?)),
         }
-        None => Ok(None),
-    }
-}
-
-/// Any tree, or none where it is absent or null.
-#[tactic(auto, using(crate::proofs::ByRows::by_row, crate::proofs::ByKind::by_kind))]
-fn optional_tree(tree: &Value, name: &'static str) -> Result<Option<Value>, ReadFault>
-    ensures ok { IfOk result (λ o. field (row name.now optional any) (view tree.now) ≡ Some (option_of tree_of o)) }
-    ensures err { IfErr result (Refuses (field (row name.now optional any) (view tree.now))) }
-{
-    match tree.get(name) {
-        Some(member) => {
-            if member.is_null() {
-                return Ok(None);
-            }
-            Ok(Some(member.clone()?))
-        }
-        None => Ok(None),
     }
 }

@@ -27,13 +27,7 @@ impl Tree for Required {
 
     ghost doc = { required_doc };
 
-    const IS_SCHEMA: bool = false;
-
-    ghost IS_SCHEMA = { false };
-
     ghost is_of_kind = { required_of_kind };
-
-    ghost counts_as_schema = { refl };
 
     fn read_plain(
         _alloc: Global,

@@ -1,13 +1,12 @@
 //! A row of a member table, read and written by its mark.
-ghost use Rattle.std.specs.Prelude.{◌≡◌, ◌≤◌, ◌<◌, ◌+◌, None, Some, option_map, IfOk, IfErr, OnOk};
+ghost use Rattle.std.specs.Prelude.{◌≡◌, IfOk, OnOk, OnErr};
 ghost use Rattle.serde_json.specs.Find.{get};
 ghost use Rattle.serde_json.specs.View.{view, members_view};
 ghost use Rattle.utoipa_base.specs.Kinds.{required, optional, nullable};
-ghost use Rattle.utoipa_base.specs.Docs.{option_doc};
-ghost use Rattle.utoipa_base.specs.Faults.{Refuses};
 ghost use Rattle.utoipa_base.specs.Fields.{field, present, put_field};
+ghost use Rattle.utoipa_base.specs.Reads.{Reads};
 ghost use Rattle.utoipa_base.specs.Tables.{row};
-ghost use Rattle.utoipa_base.specs.Values.{values_of, schema_count};
+ghost use Rattle.utoipa_base.specs.Values.{values_of};
 ghost use Rattle.utoipa_base.specs.Views.{option_of};
 
 use crate::fault::ReadFault;
@@ -16,7 +15,9 @@ use crate::tree::Tree;
 use serde_json::{Map, Value, put};
 use std::alloc::{AllocError, Global};
 
-/// The value of a required member, refused as `Missing` where it is absent.
+/// The value of a required member.
+///
+/// Fails with `Missing` where the member is absent, and as the member's own reading fails.
 #[tactic(auto, using(crate::proofs::ByRows::by_row, crate::proofs::Values::counts, crate::proofs::Places::places))]
 pub fn row_required<T: Tree>(
     alloc: Global,
@@ -24,12 +25,8 @@ pub fn row_required<T: Tree>(
     name: &'static str,
     readings: &mut Readings,
 ) -> Result<T, ReadFault>
-    ensures ok { IfOk result (λ v. field (row name.now required T.kind) (view tree.now) ≡ Some (T.doc v)) }
-    ensures err { IfErr result (Refuses (field (row name.now required T.kind) (view tree.now))) }
-    ensures grows { readings.old ≤ readings.new }
-    ensures at_most { readings.new ≤ readings.old + values_of (get name.now (view tree.now)) }
-    ensures at_least { IfOk result (λ v. readings.new < u64.MAX
-        → readings.old + schema_count (T.doc v) ≤ readings.new) }
+    ensures { Reads (field (row name.now required T.kind) (view tree.now)) T.doc result
+        readings.old readings.new (values_of (get name.now (view tree.now))) }
 {
     match tree.get(name) {
         Some(member) => T::read_plain(alloc, member, readings),
@@ -37,7 +34,7 @@ pub fn row_required<T: Tree>(
     }
 }
 
-/// The value of an optional member, or none where it is absent or null.
+/// The value of an optional member, or none where it is absent or null. Fails as the member's own reading fails.
 #[tactic(auto, using(crate::proofs::ByRows::by_row, crate::proofs::Values::counts, crate::proofs::Places::places))]
 pub fn row_option<T: Tree>(
     alloc: Global,
@@ -45,12 +42,8 @@ pub fn row_option<T: Tree>(
     name: &'static str,
     readings: &mut Readings,
 ) -> Result<Option<T>, ReadFault>
-    ensures ok { IfOk result (λ o. field (row name.now optional T.kind) (view tree.now) ≡ Some (option_of T.doc o)) }
-    ensures err { IfErr result (Refuses (field (row name.now optional T.kind) (view tree.now))) }
-    ensures grows { readings.old ≤ readings.new }
-    ensures at_most { readings.new ≤ readings.old + values_of (get name.now (view tree.now)) }
-    ensures at_least { IfOk result (λ o. readings.new < u64.MAX
-        → readings.old + schema_count (option_of T.doc o) ≤ readings.new) }
+    ensures { Reads (field (row name.now optional T.kind) (view tree.now)) (option_of T.doc) result
+        readings.old readings.new (values_of (get name.now (view tree.now))) }
 {
     match tree.get(name) {
         Some(member) => {
@@ -63,7 +56,8 @@ pub fn row_option<T: Tree>(
     }
 }
 
-/// The value of a member that is written as null where there is none, or none where it is absent or null.
+/// The value of a member that is written as null where there is none, or none where it is absent or null. Fails as the
+/// member's own reading fails.
 #[tactic(auto, using(crate::proofs::ByRows::by_row, crate::proofs::Values::counts, crate::proofs::Places::places))]
 pub fn row_nullable<T: Tree>(
     alloc: Global,
@@ -71,17 +65,14 @@ pub fn row_nullable<T: Tree>(
     name: &'static str,
     readings: &mut Readings,
 ) -> Result<Option<T>, ReadFault>
-    ensures ok { IfOk result (λ o. field (row name.now nullable T.kind) (view tree.now) ≡ Some (option_of T.doc o)) }
-    ensures err { IfErr result (Refuses (field (row name.now nullable T.kind) (view tree.now))) }
-    ensures grows { readings.old ≤ readings.new }
-    ensures at_most { readings.new ≤ readings.old + values_of (get name.now (view tree.now)) }
-    ensures at_least { IfOk result (λ o. readings.new < u64.MAX
-        → readings.old + schema_count (option_of T.doc o) ≤ readings.new) }
+    ensures { Reads (field (row name.now nullable T.kind) (view tree.now)) (option_of T.doc) result
+        readings.old readings.new (values_of (get name.now (view tree.now))) }
 {
     row_option(alloc, tree, name, readings)
 }
 
-/// The value of a defaulted member, or none where it is absent. Null is a value like any other.
+/// The value of a defaulted member, or none where it is absent. Null is a value like any other. Fails as the member's own
+/// reading fails.
 #[tactic(auto, using(crate::proofs::ByRows::by_row, crate::proofs::Values::counts, crate::proofs::Places::places))]
 pub fn row_default<T: Tree>(
     alloc: Global,
@@ -89,12 +80,8 @@ pub fn row_default<T: Tree>(
     name: &'static str,
     readings: &mut Readings,
 ) -> Result<Option<T>, ReadFault>
-    ensures ok { IfOk result (λ o. present name.now T.kind (view tree.now) ≡ Some (option_of T.doc o)) }
-    ensures err { IfErr result (Refuses (present name.now T.kind (view tree.now))) }
-    ensures grows { readings.old ≤ readings.new }
-    ensures at_most { readings.new ≤ readings.old + values_of (get name.now (view tree.now)) }
-    ensures at_least { IfOk result (λ o. readings.new < u64.MAX
-        → readings.old + schema_count (option_of T.doc o) ≤ readings.new) }
+    ensures { Reads (present name.now T.kind (view tree.now)) (option_of T.doc) result
+        readings.old readings.new (values_of (get name.now (view tree.now))) }
 {
     match tree.get(name) {
         Some(member) => Ok(Some(T::read_plain(alloc, member, readings)?)),
@@ -102,7 +89,7 @@ pub fn row_default<T: Tree>(
     }
 }
 
-/// Writes a required member.
+/// Writes a required member. Fails where memory runs out; then the members are as they were.
 #[tactic(auto, using(crate::proofs::ByRows::by_row))]
 pub fn write_required<T: Tree>(
     members: &mut Map<String, Value>,
@@ -110,13 +97,14 @@ pub fn write_required<T: Tree>(
     name: &'static str,
     value: &T,
 ) -> Result<(), AllocError>
-    ensures { OnOk result (members_view members.new.entries
+    ensures ok { OnOk result (members_view members.new.entries
         ≡ put_field (row name.now required T.kind) (T.doc value.now) (members_view members.old.entries)) }
+    ensures err { OnErr result (members.new.entries ≡ members.old.entries) }
 {
     put(members, alloc, name, value.to_value(alloc)?)
 }
 
-/// Writes an optional member, unless it is none.
+/// Writes an optional member, unless it is none. Fails where memory runs out; then the members are as they were.
 #[tactic(auto, using(crate::proofs::ByRows::by_row))]
 pub fn write_option<T: Tree>(
     members: &mut Map<String, Value>,
@@ -124,8 +112,9 @@ pub fn write_option<T: Tree>(
     name: &'static str,
     value: &Option<T>,
 ) -> Result<(), AllocError>
-    ensures { OnOk result (members_view members.new.entries
+    ensures ok { OnOk result (members_view members.new.entries
         ≡ put_field (row name.now optional T.kind) (option_of T.doc value.now) (members_view members.old.entries)) }
+    ensures err { OnErr result (members.new.entries ≡ members.old.entries) }
 {
     match value {
         Some(value) => put(members, alloc, name, value.to_value(alloc)?),
@@ -133,7 +122,7 @@ pub fn write_option<T: Tree>(
     }
 }
 
-/// Writes an optional member, as null where it is none.
+/// Writes an optional member, as null where it is none. Fails where memory runs out; then the members are as they were.
 #[tactic(auto, using(crate::proofs::ByRows::by_row, crate::proofs::ByKind::by_kind))]
 pub fn write_nullable<T: Tree>(
     members: &mut Map<String, Value>,
@@ -141,8 +130,9 @@ pub fn write_nullable<T: Tree>(
     name: &'static str,
     value: &Option<T>,
 ) -> Result<(), AllocError>
-    ensures { OnOk result (members_view members.new.entries
+    ensures ok { OnOk result (members_view members.new.entries
         ≡ put_field (row name.now nullable T.kind) (option_of T.doc value.now) (members_view members.old.entries)) }
+    ensures err { OnErr result (members.new.entries ≡ members.old.entries) }
 {
     match value {
         Some(value) => put(members, alloc, name, value.to_value(alloc)?),
@@ -150,7 +140,7 @@ pub fn write_nullable<T: Tree>(
     }
 }
 
-/// An equal value, where there is one.
+/// An equal value, where there is one. Fails where memory runs out.
 pub fn clone_option<T: Tree>(alloc: Global, value: &Option<T>) -> Result<Option<T>, AllocError>
     ensures { IfOk result (λ copy. option_of T.doc copy ≡ option_of T.doc value.now) }
 {

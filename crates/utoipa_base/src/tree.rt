@@ -5,6 +5,7 @@ ghost use Rattle.utoipa_base.specs.Kinds.{Kind, text, flag, whole, any, list_of,
 ghost use Rattle.utoipa_base.specs.Docs.{Doc, flag_doc, whole_doc};
 ghost use Rattle.utoipa_base.specs.Faults.{Refuses};
 ghost use Rattle.utoipa_base.specs.Reading.{read};
+ghost use Rattle.utoipa_base.specs.Reads.{Reads};
 ghost use Rattle.utoipa_base.specs.Refs.{reference_doc, ref_or_doc};
 ghost use Rattle.utoipa_base.specs.Shape.{IsOf, value_of};
 ghost use Rattle.utoipa_base.specs.Values.{values, schema_count, is_schema};
@@ -12,12 +13,10 @@ ghost use Rattle.utoipa_base.specs.Views.{text_of, tree_of, list_of_docs, map_of
 ghost use Rattle.utoipa_base.specs.OfKind.{text_of_kind, flag_of_kind, whole_of_kind, tree_of_kind, list_of_kind, map_of_kind, reference_of_kind, ref_or_of_kind};
 ghost use Rattle.utoipa_base.specs.Writing.{write};
 
-use crate::empty::write_unless_empty;
 use crate::fault::ReadFault;
 use crate::fraction::has_fraction;
 use crate::readings::{Counted, Readings};
-use crate::refs::{Ref, RefOr, read_reference};
-use crate::rows::{clone_option, write_option, write_required};
+use crate::refs::{Ref, RefOr};
 use crate::scalar::{read_flag, read_text, read_whole};
 use serde_json::{Map, Value, put};
 use std::alloc::{AllocError, Global};
@@ -32,59 +31,23 @@ pub trait Tree: Drop {
 
     ghost doc: { Self → Doc };
 
-    /// Whether the type is a schema: then a reference in its place counts as a schema reading.
-    const IS_SCHEMA: bool;
-
-    ghost IS_SCHEMA: { Bool };
-
     /// Reads the tree, and counts the schema readings on the way.
     ///
+    /// Fails where the tree is no value of the type, by the first member that does not fit, and where memory runs out.
     /// Answers no `Fraction`: where the tree holds one, it is judged by its kind like any other value.
     fn read_plain(alloc: Global, tree: &Value, readings: &mut Readings) -> Result<Self, ReadFault>
-        ensures ok { IfOk result (λ v. read kind (view tree.now) ≡ Some (doc v)) }
-        ensures err { IfErr result (Refuses (read kind (view tree.now))) }
-        ensures grows { readings.old ≤ readings.new }
-        ensures at_most { readings.new ≤ readings.old + values (view tree.now) }
-        ensures at_least { IfOk result (λ v. readings.new < u64.MAX → readings.old + schema_count (doc v) ≤ readings.new) };
+        ensures { Reads (read kind (view tree.now)) doc result readings.old readings.new (values (view tree.now)) };
 
-    /// Reads the tree as a reference, or else as a value of the type.
-    #[tactic(auto, using(crate::proofs::Places::by_places))]
-    fn read_ref_or(
-        alloc: Global,
-        tree: &Value,
-        readings: &mut Readings,
-    ) -> Result<RefOr<Self>, ReadFault>
-        ensures ok { IfOk result (λ r. read (ref_or kind) (view tree.now) ≡ Some (ref_or_doc kind doc r)) }
-        ensures err { IfErr result (Refuses (read (ref_or kind) (view tree.now))) }
-        ensures grows { readings.old ≤ readings.new }
-        ensures at_most { readings.new ≤ readings.old + values (view tree.now) }
-        ensures at_least { IfOk result (λ r. readings.new < u64.MAX
-            → readings.old + schema_count (ref_or_doc kind doc r) ≤ readings.new) }
-    {
-        match read_reference(alloc, tree) {
-            Ok(reference) => {
-                if Self::IS_SCHEMA {
-                    readings.tick();
-                }
-                Ok(RefOr::Ref(reference))
-            }
-            Err(ReadFault::Memory) => Err(ReadFault::Memory),
-            Err(_) => Ok(RefOr::T(Self::read_plain(alloc, tree, readings)?)),
-        }
-    }
-
-    /// The tree that the value is written as.
+    /// The tree that the value is written as. Fails where memory runs out.
     fn to_value(&self, alloc: Global) -> Result<Value, AllocError>
         ensures { IfOk result (λ v. view v ≡ write (doc self.now)) };
 
-    /// An equal value.
+    /// An equal value. Fails where memory runs out.
     fn try_clone(&self, alloc: Global) -> Result<Self, AllocError>
         ensures { IfOk result (λ copy. doc copy ≡ doc self.now) };
 
     // Each value is a document of the type's kind.
     ghost is_of_kind: { (x : Self) → IsOf (doc x) (value_of kind) };
-
-    ghost counts_as_schema: { is_schema kind ≡ IS_SCHEMA };
 
     /// Reads the tree.
     ///
@@ -130,6 +93,37 @@ pub trait Tree: Drop {
     }
 }
 
+/// A type that may stand in a place that a reference can take: `RefOr` reads it.
+pub trait Place: Tree {
+    /// Whether the type is a schema: then a reference in its place counts as a schema reading.
+    fn is_schema() -> bool
+        ensures { result ≡ is_schema Self.kind };
+
+    /// Reads the tree as a reference, or else as a value of the type. Fails where it is neither, with the fault of the
+    /// type's own reading, and where memory runs out.
+    #[tactic(auto, using(crate::proofs::Places::by_places))]
+    fn read_ref_or(
+        alloc: Global,
+        tree: &Value,
+        readings: &mut Readings,
+    ) -> Result<RefOr<Self>, ReadFault>
+        ensures { Reads (read (ref_or Self.kind) (view tree.now)) (ref_or_doc Self.kind Self.doc) result
+            readings.old readings.new (values (view tree.now)) }
+    {
+        let mut uncounted = Readings::new();
+        match Ref::read_plain(alloc, tree, &mut uncounted) {
+            Ok(reference) => {
+                if Self::is_schema() {
+                    readings.tick();
+                }
+                Ok(RefOr::Ref(reference))
+            }
+            Err(ReadFault::Memory) => Err(ReadFault::Memory),
+            Err(_) => Ok(RefOr::T(Self::read_plain(alloc, tree, readings)?)),
+        }
+    }
+}
+
 /// A text.
 #[tactic(auto, using(crate::proofs::ByKind::by_kind, crate::proofs::Places::places))]
 impl Tree for String {
@@ -137,13 +131,7 @@ impl Tree for String {
 
     ghost doc = { text_of };
 
-    const IS_SCHEMA: bool = false;
-
-    ghost IS_SCHEMA = { false };
-
     ghost is_of_kind = { text_of_kind };
-
-    ghost counts_as_schema = { refl };
 
     fn read_plain(
         alloc: Global,
@@ -169,13 +157,7 @@ impl Tree for bool {
 
     ghost doc = { flag_doc };
 
-    const IS_SCHEMA: bool = false;
-
-    ghost IS_SCHEMA = { false };
-
     ghost is_of_kind = { flag_of_kind };
-
-    ghost counts_as_schema = { refl };
 
     fn read_plain(
         _alloc: Global,
@@ -201,13 +183,7 @@ impl Tree for usize {
 
     ghost doc = { whole_doc };
 
-    const IS_SCHEMA: bool = false;
-
-    ghost IS_SCHEMA = { false };
-
     ghost is_of_kind = { whole_of_kind };
-
-    ghost counts_as_schema = { refl };
 
     fn read_plain(
         _alloc: Global,
@@ -233,13 +209,7 @@ impl Tree for Value {
 
     ghost doc = { tree_of };
 
-    const IS_SCHEMA: bool = false;
-
-    ghost IS_SCHEMA = { false };
-
     ghost is_of_kind = { tree_of_kind };
-
-    ghost counts_as_schema = { refl };
 
     fn read_plain(
         _alloc: Global,
@@ -265,13 +235,7 @@ impl<T: Tree> Tree for Vec<T> {
 
     ghost doc = { list_of_docs T.doc };
 
-    const IS_SCHEMA: bool = false;
-
-    ghost IS_SCHEMA = { false };
-
     ghost is_of_kind = { list_of_kind T.doc T.kind T.is_of_kind };
-
-    ghost counts_as_schema = { refl };
 
     fn read_plain(
         alloc: Global,
@@ -312,13 +276,7 @@ impl<T: Tree> Tree for BTreeMap<String, T> {
 
     ghost doc = { map_of_docs T.doc };
 
-    const IS_SCHEMA: bool = false;
-
-    ghost IS_SCHEMA = { false };
-
     ghost is_of_kind = { map_of_kind T.doc T.kind T.is_of_kind };
-
-    ghost counts_as_schema = { refl };
 
     fn read_plain(
         alloc: Global,
@@ -353,87 +311,5 @@ impl<T: Tree> Tree for BTreeMap<String, T> {
             drop(map.insert(name, value)?);
         }
         Ok(map)
-    }
-}
-
-/// A Reference Object (OpenAPI 3.1, section 4.8.23).
-#[tactic(auto, using(crate::proofs::Places::places))]
-impl Tree for Ref {
-    ghost kind = { named reference_object };
-
-    ghost doc = { reference_doc };
-
-    const IS_SCHEMA: bool = false;
-
-    ghost IS_SCHEMA = { false };
-
-    ghost is_of_kind = { reference_of_kind };
-
-    ghost counts_as_schema = { refl };
-
-    fn read_plain(alloc: Global, tree: &Value, _readings: &mut Readings) -> Result<Ref, ReadFault> {
-        read_reference(alloc, tree)
-    }
-
-    fn to_value(&self, alloc: Global) -> Result<Value, AllocError> {
-        let mut members = Map::new(alloc);
-        write_required(&mut members, alloc, "$ref", &self.ref_location)?;
-        write_unless_empty(&mut members, alloc, "description", &self.description)?;
-        write_unless_empty(&mut members, alloc, "summary", &self.summary)?;
-        write_option(&mut members, alloc, "readOnly", &self.read_only)?;
-        write_option(&mut members, alloc, "writeOnly", &self.write_only)?;
-        write_option(&mut members, alloc, "default", &self.default)?;
-        write_option(&mut members, alloc, "title", &self.title)?;
-        Ok(Value::Object(members))
-    }
-
-    fn try_clone(&self, alloc: Global) -> Result<Ref, AllocError> {
-        Ok(Ref {
-            ref_location: self.ref_location.try_clone(alloc)?,
-            description: self.description.try_clone(alloc)?,
-            summary: self.summary.try_clone(alloc)?,
-            read_only: clone_option(alloc, &self.read_only)?,
-            write_only: clone_option(alloc, &self.write_only)?,
-            default: clone_option(alloc, &self.default)?,
-            title: clone_option(alloc, &self.title)?,
-        })
-    }
-}
-
-/// A reference, or else a value in its place.
-#[tactic(auto, using(crate::proofs::Places::by_places))]
-impl<T: Tree> Tree for RefOr<T> {
-    ghost kind = { ref_or T.kind };
-
-    ghost doc = { ref_or_doc T.kind T.doc };
-
-    const IS_SCHEMA: bool = false;
-
-    ghost IS_SCHEMA = { false };
-
-    ghost is_of_kind = { ref_or_of_kind T.doc T.kind T.is_of_kind };
-
-    ghost counts_as_schema = { refl };
-
-    fn read_plain(
-        alloc: Global,
-        tree: &Value,
-        readings: &mut Readings,
-    ) -> Result<RefOr<T>, ReadFault> {
-        T::read_ref_or(alloc, tree, readings)
-    }
-
-    fn to_value(&self, alloc: Global) -> Result<Value, AllocError> {
-        match self {
-            RefOr::Ref(reference) => reference.to_value(alloc),
-            RefOr::T(value) => value.to_value(alloc),
-        }
-    }
-
-    fn try_clone(&self, alloc: Global) -> Result<RefOr<T>, AllocError> {
-        match self {
-            RefOr::Ref(reference) => Ok(RefOr::Ref(reference.try_clone(alloc)?)),
-            RefOr::T(value) => Ok(RefOr::T(value.try_clone(alloc)?)),
-        }
     }
 }

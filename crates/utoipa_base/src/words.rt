@@ -62,7 +62,7 @@ pub fn read_word<W: Word>(tree: &Value, name: &'static str) -> Result<W, ReadFau
     }
 }
 
-/// The word of a value, as a tree.
+/// The word of a value, as a tree. Fails where memory runs out.
 #[tactic(auto, using(crate::proofs::ByWords::by_words))]
 pub fn write_word<W: Word>(alloc: Global, word: &W) -> Result<Value, AllocError>
     ensures { IfOk result (λ v. view v ≡ write (word_doc (W.spelling word.now))) }
