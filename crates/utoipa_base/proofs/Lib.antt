@@ -20,3 +20,9 @@ pub mod ReadsBack
 pub mod Plain
 pub mod Twice
 pub mod WhatIsRead
+pub mod WritingLists
+pub mod WritingMaps
+pub mod TableParts
+pub mod Members
+pub mod Weights
+pub mod Tried

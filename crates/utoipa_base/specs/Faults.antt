@@ -1,5 +1,5 @@
 -- What a fault of reading says.
-use Rattle.std.specs.Prelude.{◌≡◌, Option, None}
+use Rattle.std.specs.Prelude.{◌≡◌, Option, None, Some, Result, Ok, Err}
 use Rattle.utoipa_base.specs.Docs.{Doc}
 use Rattle.utoipa_base.specs.declared.fault.ReadFault.{ReadFault}
 use Rattle.utoipa_base.specs.declared.fault.ReadFault.TheVariants.{Memory, Fraction, Missing, Kind, Word, Alternative, Text}
@@ -13,3 +13,9 @@ Refuses o (Kind s) = o ≡ None
 Refuses o (Word s) = o ≡ None
 Refuses o Alternative = o ≡ None
 Refuses o Text = ⊥
+
+-- what a reading says of an alternative: it fits, or it does not; memory's refusal says neither
+abbrev pub fitting : {T : Type 0} → Result T ReadFault → Result (Option T) ReadFault
+fitting (Ok v) = Ok (Some v)
+fitting (Err Memory) = Err Memory
+fitting (Err e) = Ok None

@@ -24,3 +24,4 @@ pub mod References
 pub mod Flags
 pub mod Numbers
 pub mod Vocabularies
+pub mod Mapped

@@ -1,4 +1,5 @@
 ghost use Rattle.std.specs.Prelude.{◌≡◌};
+ghost use Rattle.utoipa_base.specs.Faults.{fitting as fitting_of};
 ghost use Rattle.utoipa_base.specs.declared.fault.ReadFault.TheVariants.{Memory};
 
 use std::alloc::{AllocError, AllocFailed};
@@ -43,5 +44,18 @@ impl<T: Drop> From<AllocFailed<T>> for ReadFault {
 
     fn from(_error: AllocFailed<T>) -> ReadFault {
         ReadFault::Memory
+    }
+}
+
+/// What a reading says of an alternative: its value where it fits, none where it does not.
+///
+/// Fails with `Memory` exactly where the reading did: then it is not known whether the alternative fits.
+pub fn fitting<T>(outcome: Result<T, ReadFault>) -> Result<Option<T>, ReadFault>
+    ensures { result ≡ fitting_of outcome }
+{
+    match outcome {
+        Ok(value) => Ok(Some(value)),
+        Err(ReadFault::Memory) => Err(ReadFault::Memory),
+        Err(_) => Ok(None),
     }
 }

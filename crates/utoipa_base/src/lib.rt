@@ -31,7 +31,7 @@ pub use extensions::{
     Extensions, ExtensionsBuilder, clone_extensions, is_extension_name, read_extensions,
     written_extensions,
 };
-pub use fault::ReadFault;
+pub use fault::{ReadFault, fitting};
 pub use fraction::{has_fraction, members_have_fraction};
 pub use lists::{list_from, list_if_any};
 pub use number::Number;

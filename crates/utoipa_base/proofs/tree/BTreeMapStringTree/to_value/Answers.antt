@@ -1,27 +1,18 @@
-use Rattle.std.proofs.Common.{◌≡◌, [], ◌∷◌, ◌++◌, ◌∙◌, ap, sym, subst, append_assoc, append-nil, String, Global, string_cmp}
-use Rattle.std.specs.List.Sorted.{IsStrictlySortedBy}
-use Rattle.std.specs.Map.{keys_of}
-use Rattle.utoipa_base.specs.Writing.{write}
-use Rattle.utoipa_base.proofs.Maps.{members_by, put_last, write-map_of_entries}
+use Rattle.std.proofs.Common.{◌≡◌, ◌∙◌, ap, rules}
+use Rattle.serde_json.specs.Data.{no_members, put}
+use Rattle.serde_json.specs.View.{view, members_view}
+use Rattle.utoipa_base.proofs.WritingMaps.{written_begun, written_step, written_map}
 use Rattle.utoipa_base.proofs.tree.BTreeMapStringTree.to_value.Goals as goal
+
+pub loop-key-init : goal.loop-key-init
+loop-key-init g c =
+    let none : members_view c.new-members.result.entries ≡ no_members = search rules in
+    written_begun _ _ _ _ (c.into_iter-key-iterator.ensures.into_iter_gives ∙ c.iter-key-items.ensures.rest) none
 
 pub loop-key-preserved : goal.loop-key-preserved
 loop-key-preserved g c =
-    let l = c.loop-key in
-    let done = l.invariant.0 in
-    let e : String Global × g.row.T.Denot = (c.in-Some.key.now, c.in-Some.member.now) in
-    let left = c.next.new.self in
-    let f = λ (x : g.row.T.Denot). write (g.T.Tree.doc x) in
-    let all : c.args.self.now.entries ≡ done ++ e ∷ left = l.invariant.1 ∙ ap (λ es. done ++ es) c.in-Some.ensures.steps in
-    let last = put_last f done e left (subst (λ es. IsStrictlySortedBy string_cmp (keys_of es)) all c.iter-key-items.ensures.ordered) in (
-      done ++ e ∷ [],
-      all ∙ sym (append_assoc done (e ∷ []) left),
-      c.in_ok-put.ensures.ok ∙ rw (c.as_str.ensures.value, c.in_ok-to_value.ensures, l.invariant.2) last,
-    )
+    written_step _ _ _ _ _ _ _ (view c.in_ok-to_value.field-0) c.loop-key.invariant c.in-Some.ensures.steps c.iter-key-items.ensures.ordered c.in_ok-to_value.ensures
+    (c.in_ok-put.ensures.ok ∙ ap (λ name. put name (view c.in_ok-to_value.field-0) (members_view c.loop-key.members.entries)) c.as_str.ensures.value)
 
 pub returns : goal.returns
-returns g c =
-    let l = c.loop-key in
-    let f = λ (x : g.row.T.Denot). write (g.T.Tree.doc x) in
-    let all : l.invariant.0 ≡ c.args.self.now.entries = sym (l.invariant.1 ∙ ap (λ es. l.invariant.0 ++ es) c.in-None.ensures.steps.0 ∙ append-nil l.invariant.0) in
-    write-map_of_entries g.T.Tree.doc c.args.self.now.entries l.members (l.invariant.2 ∙ ap (members_by f) all)
+returns g c = written_map _ _ _ _ c.loop-key.invariant c.in-None.ensures.steps.0
