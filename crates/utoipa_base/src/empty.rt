@@ -99,7 +99,7 @@ pub fn row_or_empty<T: Empty>(
 pub fn write_unless_empty<T: Empty>(
     members: &mut Map<String, Value>,
     alloc: Global,
-    name: &'static str,
+    name: &str,
     value: &T,
 ) -> Result<(), AllocError>
     ensures ok { OnOk result (members_view members.new.entries

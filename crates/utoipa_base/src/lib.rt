@@ -43,5 +43,6 @@ pub use rows::{
     write_option, write_required,
 };
 pub use same::{same_members, same_tree};
+pub use table::{read_table, read_table_alone, write_table, write_table_alone};
 pub use tree::{Place, Tree};
 pub use words::{Word, read_word, write_word};

@@ -5,8 +5,9 @@ ghost use Rattle.utoipa_base.specs.Refs.{reference_doc, ref_or_doc};
 
 use crate::fault::ReadFault;
 use crate::readings::Readings;
+use crate::table::{read_table_alone, write_table_alone};
 use crate::tree::{Place, Tree};
-use crate::{clone_table_alone, read_table_alone, write_table_alone};
+use crate::{clone_table_alone, from_fields_alone, row_names, row_values};
 use serde_json::Value;
 use std::alloc::{AllocError, Global};
 
@@ -137,11 +138,16 @@ impl Tree for Ref {
     ghost is_of_kind = { reference_of_kind };
 
     fn read_plain(alloc: Global, tree: &Value, readings: &mut Readings) -> Result<Ref, ReadFault> {
-        ref_rows!(read_table_alone!(Ref, alloc, tree, readings))
+        let fields = read_table_alone(alloc, tree, "Ref", ref_rows!(row_names!()), readings)?;
+        Ok(ref_rows!(from_fields_alone!(Ref, fields)))
     }
 
     fn to_value(&self, alloc: Global) -> Result<Value, AllocError> {
-        ref_rows!(write_table_alone!(self, alloc))
+        write_table_alone(
+            alloc,
+            ref_rows!(row_names!()),
+            &ref_rows!(row_values!(self)),
+        )
     }
 
     fn try_clone(&self, alloc: Global) -> Result<Ref, AllocError> {

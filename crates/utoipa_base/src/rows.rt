@@ -94,7 +94,7 @@ pub fn row_default<T: Tree>(
 pub fn write_required<T: Tree>(
     members: &mut Map<String, Value>,
     alloc: Global,
-    name: &'static str,
+    name: &str,
     value: &T,
 ) -> Result<(), AllocError>
     ensures ok { OnOk result (members_view members.new.entries
@@ -109,7 +109,7 @@ pub fn write_required<T: Tree>(
 pub fn write_option<T: Tree>(
     members: &mut Map<String, Value>,
     alloc: Global,
-    name: &'static str,
+    name: &str,
     value: &Option<T>,
 ) -> Result<(), AllocError>
     ensures ok { OnOk result (members_view members.new.entries
@@ -127,7 +127,7 @@ pub fn write_option<T: Tree>(
 pub fn write_nullable<T: Tree>(
     members: &mut Map<String, Value>,
     alloc: Global,
-    name: &'static str,
+    name: &str,
     value: &Option<T>,
 ) -> Result<(), AllocError>
     ensures ok { OnOk result (members_view members.new.entries

@@ -1,15 +1,15 @@
-//! A member table read as a whole, from the rows that a type lists once.
+//! A member table read and written as a whole, from the rows that a type lists once.
 //!
-//! The rows of a type stand in a macro beside it, in the order of its member table, and the macros of this crate make of them
-//! what is written of each row: [`read_table!`](crate::read_table), [`write_table!`](crate::write_table),
-//! [`clone_table!`](crate::clone_table) and, for the types that merging compares,
-//! [`table_has_fraction!`](crate::table_has_fraction) and [`same_table!`](crate::same_table).
-ghost use Rattle.std.specs.Prelude.{◌≡◌, ◌+◌, [], List, ℕ, length, true, false, None, option_map};
+//! The rows of a type stand in a macro beside it, in the order of its member table. The macros of this crate make of that list
+//! the names of the rows ([`row_names!`](crate::row_names)), the value from its fields once they are read
+//! ([`from_fields!`](crate::from_fields)), the fields to be written ([`row_values!`](crate::row_values)), a copy
+//! ([`clone_table!`](crate::clone_table)) and, for the types that merging compares, the bodies of `has_fraction` and `same`.
+ghost use Rattle.std.specs.Prelude.{◌≡◌, ◌+◌, [], List, ℕ, length, true, false, None, option_map, IfOk, OnOk, OnErr};
 ghost use Rattle.serde_json.specs.Find.{get};
-ghost use Rattle.serde_json.specs.View.{view};
+ghost use Rattle.serde_json.specs.View.{view, members_view};
 ghost use Rattle.utoipa_base.specs.Docs.{Doc, Docs, no_docs, doc, table_doc, list_doc};
 ghost use Rattle.utoipa_base.specs.Extensions.{extensions_view};
-ghost use Rattle.utoipa_base.specs.Fields.{field};
+ghost use Rattle.utoipa_base.specs.Fields.{field, put_field};
 ghost use Rattle.utoipa_base.specs.Kinds.{ObjectType, Row, named, required, optional, nullable, defaulted};
 ghost use Rattle.utoipa_base.specs.Reading.{read};
 ghost use Rattle.utoipa_base.specs.Reads.{Reads};
@@ -17,15 +17,18 @@ ghost use Rattle.utoipa_base.specs.Rows.{part, rows_values, texts, rows_from};
 ghost use Rattle.utoipa_base.specs.Tables.{row, table, has_extensions};
 ghost use Rattle.utoipa_base.specs.Values.{values, values_of};
 ghost use Rattle.utoipa_base.specs.Views.{option_of};
+ghost use Rattle.utoipa_base.specs.Writing.{write, write_rows};
 
-use crate::empty::{Empty, row_or_empty};
-use crate::extensions::{Extensions, read_extensions};
+use crate::empty::{Empty, row_or_empty, write_unless_empty};
+use crate::extensions::{Extensions, read_extensions, written_extensions};
 use crate::fault::ReadFault;
 use crate::readings::Readings;
-use crate::rows::{row_nullable, row_option, row_required};
+use crate::rows::{
+    row_nullable, row_option, row_required, write_nullable, write_option, write_required,
+};
 use crate::tree::Tree;
-use serde_json::Value;
-use std::alloc::Global;
+use serde_json::{Map, Value};
+use std::alloc::{AllocError, Global};
 
 /// What is read at one row of a member table. The type tells the row's mark and kind; the name is given.
 pub trait RowField: Drop {
@@ -217,4 +220,184 @@ pub fn read_table_alone<R: RowFields>(
         return Err(ReadFault::Kind(object));
     }
     R::read(alloc, tree, names, readings)
+}
+
+/// What is written of one row of a member table. The type tells the row's mark and kind; the name is given.
+pub trait RowValue {
+    ghost line: { List ℕ → Row };
+
+    ghost doc: { Self → Doc };
+
+    /// Writes the row's member. Fails where memory runs out; then the members are as they were.
+    fn write(
+        &self,
+        members: &mut Map<String, Value>,
+        alloc: Global,
+        name: &str,
+    ) -> Result<(), AllocError>
+        ensures ok { OnOk result (members_view members.new.entries
+            ≡ put_field (line name.now) (doc self.now) (members_view members.old.entries)) }
+        ensures err { OnErr result (members.new.entries ≡ members.old.entries) };
+}
+
+/// The value of a required member, to be written.
+#[derive(Clone, Copy)]
+pub struct RequiredValue<'a, T>(pub &'a T);
+
+/// The value of an optional member, to be written.
+#[derive(Clone, Copy)]
+pub struct OptionalValue<'a, T>(pub &'a Option<T>);
+
+/// The value of a member that is written as null where there is none, to be written.
+#[derive(Clone, Copy)]
+pub struct OrNullValue<'a, T>(pub &'a Option<T>);
+
+/// The value of a defaulted member, to be written.
+#[derive(Clone, Copy)]
+pub struct DefaultedValue<'a, T>(pub &'a T);
+
+impl<'a, T: Tree> RowValue for RequiredValue<'a, T> {
+    ghost line = { λ name. row name required T.kind };
+
+    ghost doc = { λ v. T.doc v.0.now };
+
+    fn write(
+        &self,
+        members: &mut Map<String, Value>,
+        alloc: Global,
+        name: &str,
+    ) -> Result<(), AllocError> {
+        write_required(members, alloc, name, self.0)
+    }
+}
+
+impl<'a, T: Tree> RowValue for OptionalValue<'a, T> {
+    ghost line = { λ name. row name optional T.kind };
+
+    ghost doc = { λ v. option_of T.doc v.0.now };
+
+    fn write(
+        &self,
+        members: &mut Map<String, Value>,
+        alloc: Global,
+        name: &str,
+    ) -> Result<(), AllocError> {
+        write_option(members, alloc, name, self.0)
+    }
+}
+
+impl<'a, T: Tree> RowValue for OrNullValue<'a, T> {
+    ghost line = { λ name. row name nullable T.kind };
+
+    ghost doc = { λ v. option_of T.doc v.0.now };
+
+    fn write(
+        &self,
+        members: &mut Map<String, Value>,
+        alloc: Global,
+        name: &str,
+    ) -> Result<(), AllocError> {
+        write_nullable(members, alloc, name, self.0)
+    }
+}
+
+impl<'a, T: Empty> RowValue for DefaultedValue<'a, T> {
+    ghost line = { λ name. row name defaulted T.kind };
+
+    ghost doc = { λ v. T.doc v.0.now };
+
+    fn write(
+        &self,
+        members: &mut Map<String, Value>,
+        alloc: Global,
+        name: &str,
+    ) -> Result<(), AllocError> {
+        write_unless_empty(members, alloc, name, self.0)
+    }
+}
+
+/// What is written of the rows of a member table: nested pairs of [`RowValue`]s that end in `()`.
+pub trait RowValues {
+    ghost count: { ℕ };
+
+    ghost rows: { List (List ℕ) → List Row };
+
+    ghost docs: { Self → Docs };
+
+    /// The members, over which the rows have been put by their names. Fails where memory runs out.
+    fn write(
+        &self,
+        members: Map<String, Value>,
+        alloc: Global,
+        names: &[&str],
+    ) -> Result<Map<String, Value>, AllocError>
+        requires { length names.now ≡ count }
+        ensures { IfOk result (λ all. members_view all.entries
+            ≡ write_rows (docs self.now) (rows (texts names.now)) (members_view members.entries)) };
+}
+
+impl RowValues for () {
+    ghost count = { 0 };
+
+    ghost rows = { λ _. [] };
+
+    ghost docs = { λ _. no_docs };
+
+    #[tactic(auto, using(crate::proofs::ByRows::by_writing))]
+    fn write(
+        &self,
+        members: Map<String, Value>,
+        _alloc: Global,
+        _names: &[&str],
+    ) -> Result<Map<String, Value>, AllocError> {
+        Ok(members)
+    }
+}
+
+impl<H: RowValue, R: RowValues> RowValues for (H, R) {
+    ghost count = { R.count + 1 };
+
+    ghost rows = { rows_from H.line R.rows };
+
+    ghost docs = { λ v. doc (H.doc v.0) (R.docs v.1) };
+
+    fn write(
+        &self,
+        mut members: Map<String, Value>,
+        alloc: Global,
+        names: &[&str],
+    ) -> Result<Map<String, Value>, AllocError> {
+        self.0.write(&mut members, alloc, names[0])?;
+        self.1.write(members, alloc, &names[1..])
+    }
+}
+
+/// The tree of an object: the rows of its table, by their names, over its extensions. Fails where memory runs out.
+pub fn write_table<R: RowValues>(
+    alloc: Global,
+    names: &[&str],
+    values: &R,
+    extensions: &Option<Extensions>,
+) -> Result<Value, AllocError>
+    requires { length names.now ≡ R.count }
+    ensures { (n : ObjectType) → R.rows (texts names.now) ≡ table n
+        → IfOk result (λ v. view v ≡ write (table_doc n (R.docs values.now) (option_map extensions_view extensions.now))) }
+{
+    let members = written_extensions(alloc, extensions)?;
+    let all = values.write(members, alloc, names)?;
+    Ok(Value::Object(all))
+}
+
+/// The tree of an object of a type that keeps no extensions. Fails where memory runs out.
+pub fn write_table_alone<R: RowValues>(
+    alloc: Global,
+    names: &[&str],
+    values: &R,
+) -> Result<Value, AllocError>
+    requires { length names.now ≡ R.count }
+    ensures { (n : ObjectType) → R.rows (texts names.now) ≡ table n
+        → IfOk result (λ v. view v ≡ write (table_doc n (R.docs values.now) None)) }
+{
+    let all = values.write(Map::new(alloc), alloc, names)?;
+    Ok(Value::Object(all))
 }
