@@ -313,3 +313,33 @@ impl<T: Tree> Tree for BTreeMap<String, T> {
         Ok(map)
     }
 }
+
+impl Place for String {
+    fn is_schema() -> bool {
+        false
+    }
+}
+
+impl Place for bool {
+    fn is_schema() -> bool {
+        false
+    }
+}
+
+impl Place for Value {
+    fn is_schema() -> bool {
+        false
+    }
+}
+
+impl<T: Tree> Place for Vec<T> {
+    fn is_schema() -> bool {
+        false
+    }
+}
+
+impl<T: Tree> Place for BTreeMap<String, T> {
+    fn is_schema() -> bool {
+        false
+    }
+}
