@@ -2,7 +2,7 @@
 ghost use Rattle.std.specs.Prelude.{◌≡◌, IfOk, OnOk, OnErr};
 ghost use Rattle.serde_json.specs.Find.{get};
 ghost use Rattle.serde_json.specs.View.{view, members_view};
-ghost use Rattle.utoipa_base.specs.Kinds.{required, optional, nullable};
+ghost use Rattle.utoipa_base.specs.Kinds.{required, optional, or_null};
 ghost use Rattle.utoipa_base.specs.Fields.{field, present, put_field};
 ghost use Rattle.utoipa_base.specs.Reads.{Reads};
 ghost use Rattle.utoipa_base.specs.Tables.{row};
@@ -59,13 +59,13 @@ pub fn row_option<T: Tree>(
 /// The value of a member that is written as null where there is none, or none where it is absent or null. Fails as the
 /// member's own reading fails.
 #[tactic(auto, using(crate::proofs::ByRows::by_row, crate::proofs::Values::counts, crate::proofs::Places::places))]
-pub fn row_nullable<T: Tree>(
+pub fn row_or_null<T: Tree>(
     alloc: Global,
     tree: &Value,
     name: &'static str,
     readings: &mut Readings,
 ) -> Result<Option<T>, ReadFault>
-    ensures { Reads (field (row name.now nullable T.kind) (view tree.now)) (option_of T.doc) result
+    ensures { Reads (field (row name.now or_null T.kind) (view tree.now)) (option_of T.doc) result
         readings.old readings.new (values_of (get name.now (view tree.now))) }
 {
     row_option(alloc, tree, name, readings)
@@ -124,14 +124,14 @@ pub fn write_option<T: Tree>(
 
 /// Writes an optional member, as null where it is none. Fails where memory runs out; then the members are as they were.
 #[tactic(auto, using(crate::proofs::ByRows::by_row, crate::proofs::ByKind::by_kind))]
-pub fn write_nullable<T: Tree>(
+pub fn write_or_null<T: Tree>(
     members: &mut Map<String, Value>,
     alloc: Global,
     name: &str,
     value: &Option<T>,
 ) -> Result<(), AllocError>
     ensures ok { OnOk result (members_view members.new.entries
-        ≡ put_field (row name.now nullable T.kind) (option_of T.doc value.now) (members_view members.old.entries)) }
+        ≡ put_field (row name.now or_null T.kind) (option_of T.doc value.now) (members_view members.old.entries)) }
     ensures err { OnErr result (members.new.entries ≡ members.old.entries) }
 {
     match value {

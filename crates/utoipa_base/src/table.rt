@@ -10,7 +10,7 @@ ghost use Rattle.serde_json.specs.View.{view, members_view};
 ghost use Rattle.utoipa_base.specs.Docs.{Doc, Docs, no_docs, doc, table_doc, list_doc};
 ghost use Rattle.utoipa_base.specs.Extensions.{extensions_view};
 ghost use Rattle.utoipa_base.specs.Fields.{field, put_field};
-ghost use Rattle.utoipa_base.specs.Kinds.{ObjectType, Row, named, required, optional, nullable, defaulted};
+ghost use Rattle.utoipa_base.specs.Kinds.{ObjectType, Row, named, required, optional, or_null, defaulted};
 ghost use Rattle.utoipa_base.specs.Reading.{read};
 ghost use Rattle.utoipa_base.specs.Reads.{Reads};
 ghost use Rattle.utoipa_base.specs.Rows.{part, rows_values, texts, rows_from};
@@ -24,7 +24,7 @@ use crate::extensions::{Extensions, read_extensions, written_extensions};
 use crate::fault::ReadFault;
 use crate::readings::Readings;
 use crate::rows::{
-    row_nullable, row_option, row_required, write_nullable, write_option, write_required,
+    row_option, row_or_null, row_required, write_option, write_or_null, write_required,
 };
 use crate::tree::Tree;
 use serde_json::{Map, Value};
@@ -94,7 +94,7 @@ impl<T: Tree> RowField for OptionalField<T> {
 }
 
 impl<T: Tree> RowField for OrNullField<T> {
-    ghost line = { λ name. row name nullable T.kind };
+    ghost line = { λ name. row name or_null T.kind };
 
     ghost doc = { λ v. option_of T.doc v.0 };
 
@@ -104,7 +104,7 @@ impl<T: Tree> RowField for OrNullField<T> {
         name: &'static str,
         readings: &mut Readings,
     ) -> Result<OrNullField<T>, ReadFault> {
-        Ok(OrNullField(row_nullable(alloc, tree, name, readings)?))
+        Ok(OrNullField(row_or_null(alloc, tree, name, readings)?))
     }
 }
 
@@ -287,7 +287,7 @@ impl<'a, T: Tree> RowValue for OptionalValue<'a, T> {
 }
 
 impl<'a, T: Tree> RowValue for OrNullValue<'a, T> {
-    ghost line = { λ name. row name nullable T.kind };
+    ghost line = { λ name. row name or_null T.kind };
 
     ghost doc = { λ v. option_of T.doc v.0.now };
 
@@ -297,7 +297,7 @@ impl<'a, T: Tree> RowValue for OrNullValue<'a, T> {
         alloc: Global,
         name: &str,
     ) -> Result<(), AllocError> {
-        write_nullable(members, alloc, name, self.0)
+        write_or_null(members, alloc, name, self.0)
     }
 }
 
