@@ -89,7 +89,7 @@ def tables_of(text):
     tables, name = {}, None
     for line in text.split("## Member tables")[1].split("\n## Words")[0].split("\n"):
         cells = cells_of(line)
-        if len(cells) == 4 and cells[1] in ("required", "optional", "nullable", "defaulted"):
+        if len(cells) == 4 and cells[1] in ("required", "optional", "or_null", "defaulted"):
             name = re.match(r"`(\w+)`", cells[0])[1] if cells[0] else name
             members = re.findall(r"`([^`]+)`(?: → `[^`]+`)?", cells[3])
             tables.setdefault(name, []).extend((it, cells[1], cells[2]) for it in members)
@@ -154,8 +154,8 @@ class Format:
         return self.of(kind)[0]
 
     def written(self, name, tree):
-        """What is written for a tree that is read: null where a nullable member is absent."""
-        return {**{it: None for it, mark, _ in self.tables[name] if mark == "nullable"}, **tree}
+        """What is written for a tree that is read: null where an `or_null` member is absent."""
+        return {**{it: None for it, mark, _ in self.tables[name] if mark == "or_null"}, **tree}
 
 
 def text_of(tree):
@@ -221,7 +221,7 @@ class Sweep:
     def add_null(self, member, mark, kind, others):
         """Null is absence of an optional member; else the kind decides."""
         null = {**others, member: None}
-        if mark in ("optional", "nullable"):
+        if mark in ("optional", "or_null"):
             self.is_read(null, others)
         elif kind == "SchemaType":
             self.is_read(null, null if mark == "required" else others)

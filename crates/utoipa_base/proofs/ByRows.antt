@@ -11,7 +11,7 @@ use Rattle.std.specs.Result.{IsErrAnd}
 use Rattle.utoipa_base.specs.declared.fault.ReadFault.{ReadFault}
 use Rattle.utoipa_base.specs.declared.fault.ReadFault.TheVariants.{Memory, Fraction, Missing, Kind as no_kind, Word, Alternative, Text}
 use Rattle.utoipa_base.specs.Faults.{Refuses}
-use Rattle.utoipa_base.specs.Kinds.{ObjectType, Kind, named, Mark, required, optional, nullable, defaulted, Row}
+use Rattle.utoipa_base.specs.Kinds.{ObjectType, Kind, named, Mark, required, optional, or_null, defaulted, Row}
 use Rattle.utoipa_base.specs.Docs.{Doc, none_doc, some_doc, table_doc, Docs, no_docs, doc}
 use Rattle.utoipa_base.specs.Tables.{table, has_extensions, row}
 use Rattle.utoipa_base.specs.Extensions.{extensions_of, extensions_at, members_or_none}
@@ -27,11 +27,11 @@ pub put_field-required : (name : List ℕ) (k : Kind) (d : Doc) (ms : Members) �
 unfolding put_field
 put_field-required name k d ms = refl
 
-pub put_field-null : (name : List ℕ) (k : Kind) (ms : Members) → put_field (row name nullable k) none_doc ms ≡ put name null ms
+pub put_field-null : (name : List ℕ) (k : Kind) (ms : Members) → put_field (row name or_null k) none_doc ms ≡ put name null ms
 unfolding put_field write
 put_field-null name k ms = refl
 
-pub put_field-there : (name : List ℕ) (k : Kind) (d : Doc) (ms : Members) → put_field (row name nullable k) (some_doc d) ms ≡ put name (write d) ms
+pub put_field-there : (name : List ℕ) (k : Kind) (d : Doc) (ms : Members) → put_field (row name or_null k) (some_doc d) ms ≡ put name (write d) ms
 unfolding put_field write
 put_field-there name k d ms = refl
 
@@ -59,10 +59,10 @@ pub put_field-full : (name : List ℕ) (k : Kind) (d : Doc) (ms : Members) → i
 unfolding put_field
 put_field-full name k d ms e = ap (λ b. put_unless b name (write d) ms) e
 
--- a nullable member is read as an optional one
-pub field-nullable : (name : List ℕ) (k : Kind) (d : Data) → field (row name nullable k) d ≡ field (row name optional k) d
+-- an `or_null` member is read as an optional one
+pub field-or_null : (name : List ℕ) (k : Kind) (d : Data) → field (row name or_null k) d ≡ field (row name optional k) d
 unfolding field
-field-nullable name k d = elim (get name d) as (λ o. field_of nullable k o ≡ field_of optional k o) [ None ↦ refl | Some e ↦ refl ]
+field-or_null name k d = elim (get name d) as (λ o. field_of or_null k o ≡ field_of optional k o) [ None ↦ refl | Some e ↦ refl ]
 
 -- a member that may be absent, by what stands at its name
 abbrev pub present_at : Kind → Option Data → Option Doc
@@ -82,8 +82,8 @@ from_part required k None = refl
 from_part required k (Some d) = refl
 from_part optional k None = refl
 from_part optional k (Some d) = refl
-from_part nullable k None = refl
-from_part nullable k (Some d) = refl
+from_part or_null k None = refl
+from_part or_null k (Some d) = refl
 from_part defaulted k None = refl
 from_part defaulted k (Some d) = refl
 

@@ -5,7 +5,7 @@ use Rattle.std.specs.Cmp.Lexicographic.{slice_cmp}
 use Rattle.serde_json.specs.Data.{Num, Data, null, boolean, number, string, array, object, Items, no_items, item, Members, no_members, member, put}
 use Rattle.serde_json.specs.Find.{as_integer, as_u64, of_integer, is_float}
 use Rattle.serde_json.specs.Written.{has_float, items_have_float, members_have_float}
-use Rattle.utoipa_base.specs.Kinds.{ObjectType, reference_object, one_of_schema, all_of_schema, any_of_schema, array_schema, object_schema, implicit_flow, password_flow, client_credentials_flow, authorization_code_flow, device_authorization_flow, type_word, known_format, Kind, text, flag, whole, numeral, any, word_of, version, list_of, map_of, entries_of, ref_or, named, schema, schema_type, schema_format, array_items, additional_properties, security_scheme, api_key, flows, Mark, required, optional, nullable, defaulted, Row}
+use Rattle.utoipa_base.specs.Kinds.{ObjectType, reference_object, one_of_schema, all_of_schema, any_of_schema, array_schema, object_schema, implicit_flow, password_flow, client_credentials_flow, authorization_code_flow, device_authorization_flow, type_word, known_format, Kind, text, flag, whole, numeral, any, word_of, version, list_of, map_of, entries_of, ref_or, named, schema, schema_type, schema_format, array_items, additional_properties, security_scheme, api_key, flows, Mark, required, optional, or_null, defaulted, Row}
 use Rattle.utoipa_base.specs.Words.{is_word}
 use Rattle.utoipa_base.specs.Version.{read_version}
 use Rattle.utoipa_base.specs.Choices.{chosen, scheme_types, api_key_places, flow_keys, schema_keywords}
@@ -195,8 +195,8 @@ field_plain required k None h = tt
 field_plain required k (Some p) h = h k
 field_plain optional k None h = refl
 field_plain optional k (Some p) h = optional_plain p.0 (p.1 k) (h k)
-field_plain nullable k None h = refl
-field_plain nullable k (Some p) h = optional_plain p.0 (p.1 k) (h k)
+field_plain or_null k None h = refl
+field_plain or_null k (Some p) h = optional_plain p.0 (p.1 k) (h k)
 field_plain defaulted k None h = empty_plain k
 field_plain defaulted k (Some p) h = h k
 

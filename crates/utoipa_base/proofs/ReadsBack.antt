@@ -5,7 +5,7 @@ use Rattle.std.specs.Prelude.{codes}
 use Rattle.std.specs.Str.{bytes_eq}
 use Rattle.serde_json.specs.Data.{Data, null, boolean, number, string, array, object, Members}
 use Rattle.serde_json.specs.Find.{get_member}
-use Rattle.utoipa_base.specs.Kinds.{ObjectType, reference_object, type_word, Kind, text, flag, whole, numeral, any, word_of, version, list_of, map_of, entries_of, named, schema, schema_type, schema_format, array_items, additional_properties, flows, Mark, required, optional, nullable, defaulted, Row}
+use Rattle.utoipa_base.specs.Kinds.{ObjectType, reference_object, type_word, Kind, text, flag, whole, numeral, any, word_of, version, list_of, map_of, entries_of, named, schema, schema_type, schema_format, array_items, additional_properties, flows, Mark, required, optional, or_null, defaulted, Row}
 use Rattle.utoipa_base.specs.Version.{read_version, is_version}
 use Rattle.utoipa_base.specs.Choices.{chosen, flow_keys, is_schema_type}
 use Rattle.utoipa_base.specs.Docs.{Doc, text_doc, flag_doc, whole_doc, int_doc, uint_doc, tree_doc, word_doc, custom_doc, types_doc, any_value_doc, none_doc, some_doc, ref_doc, own_doc, schema_doc, tagged_doc, flow_doc, list_doc, map_doc, entries_doc, table_doc, Docs, no_docs, doc, Entries, no_entries, entry}
@@ -16,7 +16,7 @@ use Rattle.utoipa_base.specs.Writing.{write, write_items, write_entries, write_r
 use Rattle.utoipa_base.specs.Fields.{field_of}
 use Rattle.utoipa_base.specs.NormalForm.{normal_form, normal_docs, normal_entries, normal_some}
 use Rattle.utoipa_base.specs.Shape.{Extends, Place, value_of, option_of, flow_place, field_place, flag_fits, word_fits, own_kind, choices_of, entry_place, IsOf, ItemsOf, EntriesOf, RowsOf}
-use Rattle.utoipa_base.specs.WellFormed.{no_extension, KeyOf, AllExtensions, IsNoReference, IsWellNamed, AreWellNamed, AreWellNamedEntries}
+use Rattle.utoipa_base.specs.WellFormed.{names_no_extension, KeyOf, AllExtensions, IsNoReference, IsUnambiguous, AreUnambiguous, AreUnambiguousEntries}
 use Rattle.utoipa_base.proofs.TableNames.{may_be_empty, has_empty, are_apart, first_empty, first_once, others_apart, table_apart}
 use Rattle.utoipa_base.proofs.WrittenMembers.{stands, fits-part, both_fit, write_rows-same, Lacks, lacks_extensions, lacks_put, write_rows-extension, some_if_any-normal, extensions-normal, merge-extensions, merge-entries}
 use Rattle.utoipa_base.proofs.Alternatives.{schema_reads, types_read, ref_reads, own_reads, no_reference, tagged_reads}
@@ -99,10 +99,10 @@ some_back true o x e = refl
 some_back false o x e = ap (option_map some_doc) e
 
 -- a field that is written even where it is none reads back
-nullable_back : (d : Doc) (k : Kind) → Back d (option_of k) → field_of nullable k (Some (write d)) ≡ Some (normal_form d)
+or_null_back : (d : Doc) (k : Kind) → Back d (option_of k) → field_of or_null k (Some (write d)) ≡ Some (normal_form d)
 unfolding write normal_form
-nullable_back none_doc k h = refl
-nullable_back d k h = h
+or_null_back none_doc k h = refl
+or_null_back d k h = h
 
 -- an empty text is what an absent text reads as
 empty_text : (s : List ℕ) (k : Kind) → is_empty (text_doc s) ≡ true → value_of k ≡ value_of text → text_doc s ≡ empty_doc k
@@ -144,7 +144,7 @@ defaulted_back false d k e m i h = h
 field_back : (m : Mark) (k : Kind) (d : Doc) → may_be_empty m k ≡ true → IsOf d (field_place m k) → Back d (field_place m k) → field_of m k (stands (left_out m d) (write d)) ≡ Some (normal_form d)
 field_back required k d m i h = h
 field_back optional k d m i h = h
-field_back nullable k d m i h = nullable_back d k h
+field_back or_null k d m i h = or_null_back d k h
 field_back defaulted k d m i h = defaulted_back (is_empty d) d k refl m i h
 
 -- ---- tables where they are expected
@@ -199,16 +199,16 @@ tagged_back (option_of j) name word choices k d c e h = cc
 tagged_back flow_place name word choices k d c e h = cc
 
 -- a table of an alternative reads back as a schema
-table_schema : (n : ObjectType) (ds : Docs) (e : Option Members) → is_schema_type n ≡ true → IsWellNamed (table_doc n ds e) → Back (table_doc n ds e) (value_of (named n))
+table_schema : (n : ObjectType) (ds : Docs) (e : Option Members) → is_schema_type n ≡ true → IsUnambiguous (table_doc n ds e) → Back (table_doc n ds e) (value_of (named n))
     → Back (schema_doc (table_doc n ds e)) (value_of schema)
-unfolding write normal_form IsWellNamed
+unfolding write normal_form IsUnambiguous
 table_schema n ds e s t h = schema_reads n ds e _ s t.1 h
 
 -- a schema reads back
-schema_back : (d : Doc) (n : ObjectType) → is_schema_type n ≡ true → IsOf d (value_of (named n)) → IsWellNamed d → Back d (value_of (named n)) → Back (schema_doc d) (value_of schema)
+schema_back : (d : Doc) (n : ObjectType) → is_schema_type n ≡ true → IsOf d (value_of (named n)) → IsUnambiguous d → Back d (value_of (named n)) → Back (schema_doc d) (value_of schema)
 schema_back d n s i =
     let a : (ds : Docs) × (e : Option Members) × (d ≡ table_doc n ds e) = as_table d n i in
-    let P : Doc → Type 0 = λ x. IsWellNamed x → Back x (value_of (named n)) → Back (schema_doc x) (value_of schema) in
+    let P : Doc → Type 0 = λ x. IsUnambiguous x → Back x (value_of (named n)) → Back (schema_doc x) (value_of schema) in
     subst P (sym a.2) (table_schema n a.0 a.1 s)
 
 -- the key of a well-formed flow chooses the flow's type
@@ -240,7 +240,7 @@ map_back es (value_of flows) q o values of_flows i =
 map_back es p q o values of_flows i = cc
 
 -- entries with extensions read back
-entries_doc_back : (es : Entries) (e : Option Members) (k : Kind) → no_extension es ≡ true → AllExtensions e → read_entries k (parts (write_entries es)) ≡ Some (normal_entries es)
+entries_doc_back : (es : Entries) (e : Option Members) (k : Kind) → names_no_extension es ≡ true → AllExtensions e → read_entries k (parts (write_entries es)) ≡ Some (normal_entries es)
     → Back (entries_doc es e) (value_of (entries_of k))
 unfolding reader write normal_form
 entries_doc_back es e k n x h =
@@ -262,10 +262,10 @@ table_back n ds e x all h =
 -- ---- everything
 
 mutual
-  unfolding IsOf ItemsOf EntriesOf RowsOf IsWellNamed AreWellNamed AreWellNamedEntries normal_form normal_docs normal_entries write write_items write_entries write_rows reader item_readers parts
+  unfolding IsOf ItemsOf EntriesOf RowsOf IsUnambiguous AreUnambiguous AreUnambiguousEntries normal_form normal_docs normal_entries write write_items write_entries write_rows reader item_readers parts
 
   -- a well-formed document reads back at its place
-  back : (d : Doc) (p : Place) → IsOf d p → IsWellNamed d → Back d p
+  back : (d : Doc) (p : Place) → IsOf d p → IsUnambiguous d → Back d p
   back (text_doc s) p i t = at_place (text_doc s) p (value_of text) i refl
   back (flag_doc b) p i t = flag_back b p i
   back (whole_doc n) p i t = at_place (whole_doc n) p (value_of whole) i refl
@@ -291,22 +291,22 @@ mutual
       (table_back n ds e i.2 t.1 (rows_back ds (table n) (members_or_none e) i.1 t.0 (table_apart n) (lacks_extensions (table n) (members_or_none e) (table_apart n) t.1)))
 
   -- the items of a list read back
-  items_back : (ds : Docs) (k : Kind) → ItemsOf ds k → AreWellNamed ds → read_items k (item_readers (write_items ds)) ≡ Some (normal_docs ds)
+  items_back : (ds : Docs) (k : Kind) → ItemsOf ds k → AreUnambiguous ds → read_items k (item_readers (write_items ds)) ≡ Some (normal_docs ds)
   items_back no_docs k i t = refl
   items_back (doc d ds) k i t = both_fit _ _ (normal_form d) (normal_docs ds) (back d (value_of k) i.0 t.0) (items_back ds k i.1 t.1)
 
   -- the entries of a map read back
-  entries_back : (es : Entries) (k : Kind) → EntriesOf es (value_of k) → AreWellNamedEntries es → read_entries k (parts (write_entries es)) ≡ Some (normal_entries es)
+  entries_back : (es : Entries) (k : Kind) → EntriesOf es (value_of k) → AreUnambiguousEntries es → read_entries k (parts (write_entries es)) ≡ Some (normal_entries es)
   entries_back no_entries k i t = refl
   entries_back (entry name d es) k i t = both_entries_fit name _ _ (normal_form d) (normal_entries es) (back d (value_of k) i.0 t.0) (entries_back es k i.1 t.2)
 
   -- flows read back, each under its own key
-  flows_back : (es : Entries) → EntriesOf es flow_place → AreWellNamedEntries es → read_flows (parts (write_entries es)) ≡ Some (normal_entries es)
+  flows_back : (es : Entries) → EntriesOf es flow_place → AreUnambiguousEntries es → read_flows (parts (write_entries es)) ≡ Some (normal_entries es)
   flows_back no_entries i t = refl
   flows_back (entry name d es) i t = both_entries_fit name _ _ (normal_form d) (normal_entries es) (back d flow_place i.0 t.0 name t.1) (flows_back es i.1 t.2)
 
   -- the rows of a table read back
-  rows_back : (ds : Docs) (rs : List Row) (start : Members) → RowsOf ds rs → AreWellNamed ds → are_apart rs ≡ true → Lacks rs start
+  rows_back : (ds : Docs) (rs : List Row) (start : Members) → RowsOf ds rs → AreUnambiguous ds → are_apart rs ≡ true → Lacks rs start
       → read_rows rs (parts (write_rows ds rs start)) ≡ Some (normal_docs ds)
   rows_back no_docs [] start i t a l = refl
   rows_back no_docs (r ∷ rs) start i t a l = absurd i
@@ -319,11 +319,11 @@ mutual
       (rows_back ds rs next i.1 t.1 (others_apart r rs a) (lacks_put rs r d (write d) start (first_once r rs a) l.1))
 
 -- a well-formed document reads back from its own tree as its normal form
-pub reads_back : (d : Doc) (k : Kind) → IsOf d (value_of k) → IsWellNamed d → read k (write d) ≡ Some (normal_form d)
+pub reads_back : (d : Doc) (k : Kind) → IsOf d (value_of k) → IsUnambiguous d → read k (write d) ≡ Some (normal_form d)
 reads_back d k i t = back d (value_of k) i t
 
 -- well-formed documents that are written alike have one normal form
-pub one_normal_form : (c d : Doc) (k : Kind) → IsOf c (value_of k) → IsWellNamed c → IsOf d (value_of k) → IsWellNamed d → write c ≡ write d → normal_form c ≡ normal_form d
+pub one_normal_form : (c d : Doc) (k : Kind) → IsOf c (value_of k) → IsUnambiguous c → IsOf d (value_of k) → IsUnambiguous d → write c ≡ write d → normal_form c ≡ normal_form d
 one_normal_form c d k i t j u e =
     let first : read k (write c) ≡ Some (normal_form c) = reads_back c k i t in
     let second : read k (write d) ≡ Some (normal_form d) = reads_back d k j u in

@@ -8,7 +8,7 @@ use Rattle.std.specs.Str.{bytes_eq}
 use Rattle.serde_json.specs.Data.{Data, Members, no_members, member, put}
 use Rattle.serde_json.specs.Find.{get_member}
 use Rattle.serde_json.proofs.Views.{get_member-put, get_member-put_other}
-use Rattle.utoipa_base.specs.Kinds.{Kind, Mark, required, optional, nullable, defaulted, Row}
+use Rattle.utoipa_base.specs.Kinds.{Kind, Mark, required, optional, or_null, defaulted, Row}
 use Rattle.utoipa_base.specs.Docs.{Doc, Docs, no_docs, doc, Entries, no_entries, entry}
 use Rattle.utoipa_base.specs.Extensions.{is_extension, extension_members, all_extensions, some_if_any, extensions_of, members_or_none}
 use Rattle.utoipa_base.specs.Reading.{reader, parts, part, entry_parts, Parts, is_null, fits, read_rows, both}
@@ -16,7 +16,7 @@ use Rattle.utoipa_base.specs.Writing.{write, write_rows, write_entries, left_out
 use Rattle.utoipa_base.specs.Fields.{field_of}
 use Rattle.utoipa_base.specs.NormalForm.{normal_extensions}
 use Rattle.utoipa_base.specs.Shape.{Extends}
-use Rattle.utoipa_base.specs.WellFormed.{AllExtensions, no_extension}
+use Rattle.utoipa_base.specs.WellFormed.{AllExtensions, names_no_extension}
 use Rattle.utoipa_base.proofs.ByRows.{part-parts}
 use Rattle.utoipa_base.proofs.Values.{get_member-skip}
 use Rattle.utoipa_base.proofs.BoolFacts.{and_first, and_second, or_first, or_second, not_true, apart}
@@ -30,8 +30,8 @@ fits_by required k None = refl
 fits_by required k (Some d) = refl
 fits_by optional k None = refl
 fits_by optional k (Some d) = refl
-fits_by nullable k None = refl
-fits_by nullable k (Some d) = refl
+fits_by or_null k None = refl
+fits_by or_null k (Some d) = refl
 fits_by defaulted k None = refl
 fits_by defaulted k (Some d) = refl
 
@@ -52,7 +52,7 @@ both_none (Some d) = refl
 required_missing : (m : Mark) (k : Kind) → is_required m ≡ true → field_of m k None ≡ None
 required_missing required k e = refl
 required_missing optional k e = absurd (true≢false (sym e))
-required_missing nullable k e = absurd (true≢false (sym e))
+required_missing or_null k e = absurd (true≢false (sym e))
 required_missing defaulted k e = absurd (true≢false (sym e))
 
 -- the row that wants the absent member is the first or a later one
@@ -204,7 +204,7 @@ merged_extensions k d rest n h (member l e ms) x =
     merged_extensions_at _ k d l e ms (rest (member l e ms)) (rest ms) (merge_member k d rest ms) refl n (and_first _ _ x) (h (member l e ms) x) (merged_extensions k d rest n h ms (and_second _ _ x))
 
 -- merged with entries that are no extensions, the extensions are found again
-pub merge-extensions : (es : Entries) (ms : Members) → no_extension es ≡ true → all_extensions ms ≡ true → extension_members (merge_members (write_entries es) ms) ≡ ms
+pub merge-extensions : (es : Entries) (ms : Members) → names_no_extension es ≡ true → all_extensions ms ≡ true → extension_members (merge_members (write_entries es) ms) ≡ ms
 unfolding write_entries
 merge-extensions no_entries ms n x = all_extensions-same ms x
 merge-extensions (entry k d es) ms n x =
@@ -235,7 +235,7 @@ merged_entries k d rest ps n h (member l e ms) x =
     merged_entries_at _ k d l e (rest (member l e ms)) (rest ms) (merge_member k d rest ms) ps refl n (and_first _ _ x) (h (member l e ms) x) (merged_entries k d rest ps n h ms (and_second _ _ x))
 
 -- merged with extensions, the entries are found again
-pub merge-entries : (es : Entries) (ms : Members) → no_extension es ≡ true → all_extensions ms ≡ true → entry_parts (parts (merge_members (write_entries es) ms)) ≡ parts (write_entries es)
+pub merge-entries : (es : Entries) (ms : Members) → names_no_extension es ≡ true → all_extensions ms ≡ true → entry_parts (parts (merge_members (write_entries es) ms)) ≡ parts (write_entries es)
 unfolding write_entries parts
 merge-entries no_entries ms n x = parts-no_entries ms x
 merge-entries (entry k d es) ms n x =

@@ -99,7 +99,7 @@ pub data Mark : Type 0 where
   -- absent or null is none; none is left out
   optional : Mark
   -- absent or null is none; none is written as null
-  nullable : Mark
+  or_null : Mark
   -- absent is empty, and null is read as the kind says, which of these kinds only `schema_type` does; empty is left out
   defaulted : Mark
 

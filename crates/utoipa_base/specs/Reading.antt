@@ -5,7 +5,7 @@ use Rattle.std.specs.Ordering.{nat_cmp, match_ordering}
 use Rattle.std.specs.Cmp.Lexicographic.{slice_cmp}
 use Rattle.serde_json.specs.Data.{Num, Data, null, boolean, number, string, array, object, Items, no_items, item, Members, no_members, member}
 use Rattle.serde_json.specs.Find.{as_u64, as_integer, as_str, get_member}
-use Rattle.utoipa_base.specs.Kinds.{ObjectType, reference_object, one_of_schema, all_of_schema, any_of_schema, array_schema, object_schema, implicit_flow, password_flow, client_credentials_flow, authorization_code_flow, device_authorization_flow, type_word, known_format, Kind, text, flag, whole, numeral, any, word_of, version, list_of, map_of, entries_of, ref_or, named, schema, schema_type, schema_format, array_items, additional_properties, security_scheme, api_key, flows, Mark, required, optional, nullable, defaulted, Row}
+use Rattle.utoipa_base.specs.Kinds.{ObjectType, reference_object, one_of_schema, all_of_schema, any_of_schema, array_schema, object_schema, implicit_flow, password_flow, client_credentials_flow, authorization_code_flow, device_authorization_flow, type_word, known_format, Kind, text, flag, whole, numeral, any, word_of, version, list_of, map_of, entries_of, ref_or, named, schema, schema_type, schema_format, array_items, additional_properties, security_scheme, api_key, flows, Mark, required, optional, or_null, defaulted, Row}
 use Rattle.utoipa_base.specs.Words.{is_word}
 use Rattle.utoipa_base.specs.Version.{read_version}
 use Rattle.utoipa_base.specs.Choices.{chosen, scheme_types, api_key_places, flow_keys, schema_keywords}
@@ -73,8 +73,8 @@ fits required k None = None
 fits required k (Some m) = m.1 k
 fits optional k None = Some none_doc
 fits optional k (Some m) = if m.0 then Some none_doc else option_map some_doc (m.1 k)
-fits nullable k None = Some none_doc
-fits nullable k (Some m) = if m.0 then Some none_doc else option_map some_doc (m.1 k)
+fits or_null k None = Some none_doc
+fits or_null k (Some m) = if m.0 then Some none_doc else option_map some_doc (m.1 k)
 fits defaulted k None = Some (empty_doc k)
 fits defaulted k (Some m) = m.1 k
 

@@ -1,7 +1,7 @@
 -- Which documents are of a kind. Every value of a type is of the type's kind.
 use Rattle.std.specs.Prelude.{◌≡◌, ℕ, List, [], ◌∷◌, Bool, true, false, not, Option, None, Some, codes}
 use Rattle.serde_json.specs.Data.{Members}
-use Rattle.utoipa_base.specs.Kinds.{ObjectType, reference_object, type_word, known_format, Kind, text, flag, whole, numeral, any, word_of, version, list_of, map_of, entries_of, ref_or, named, schema, schema_type, schema_format, array_items, additional_properties, security_scheme, api_key, flows, Mark, required, optional, nullable, defaulted, Row}
+use Rattle.utoipa_base.specs.Kinds.{ObjectType, reference_object, type_word, known_format, Kind, text, flag, whole, numeral, any, word_of, version, list_of, map_of, entries_of, ref_or, named, schema, schema_type, schema_format, array_items, additional_properties, security_scheme, api_key, flows, Mark, required, optional, or_null, defaulted, Row}
 use Rattle.utoipa_base.specs.Words.{is_word}
 use Rattle.utoipa_base.specs.Version.{is_version}
 use Rattle.utoipa_base.specs.Choices.{chosen, scheme_types, api_key_places, is_flow, is_schema_type}
@@ -18,7 +18,7 @@ pub data Place : Type 0 where
 abbrev pub field_place : Mark → Kind → Place
 field_place required k = value_of k
 field_place optional k = option_of k
-field_place nullable k = option_of k
+field_place or_null k = option_of k
 field_place defaulted k = value_of k
 
 abbrev pub flag_fits : Bool → Place → Bool

@@ -1,6 +1,6 @@
 -- The member tables of the model: a line for each member that the model keeps, by OpenAPI 3.1 with members that 3.2 adds.
 use Rattle.std.specs.Prelude.{ℕ, List, [], ◌∷◌, Bool, true, false, codes}
-use Rattle.utoipa_base.specs.Kinds.{ObjectType, open_api_object, info_object, contact_object, license_object, server_object, server_variable_object, components_object, path_item_object, operation_object, external_docs_object, parameter_object, request_body_object, media_type_object, encoding_object, response_object, example_object, link_object, header_object, tag_object, reference_object, discriminator_object, xml_object, one_of_schema, all_of_schema, any_of_schema, array_schema, object_schema, api_key_scheme, http_scheme, open_id_connect_scheme, mutual_tls_scheme, oauth2_scheme, implicit_flow, password_flow, client_credentials_flow, authorization_code_flow, device_authorization_flow, scopes_object, Kind, text, flag, whole, numeral, any, word_of, parameter_in, parameter_style, http_auth_scheme, version, list_of, map_of, entries_of, ref_or, named, schema, schema_type, schema_format, array_items, additional_properties, security_scheme, flows, Mark, required, optional, nullable, defaulted, Row}
+use Rattle.utoipa_base.specs.Kinds.{ObjectType, open_api_object, info_object, contact_object, license_object, server_object, server_variable_object, components_object, path_item_object, operation_object, external_docs_object, parameter_object, request_body_object, media_type_object, encoding_object, response_object, example_object, link_object, header_object, tag_object, reference_object, discriminator_object, xml_object, one_of_schema, all_of_schema, any_of_schema, array_schema, object_schema, api_key_scheme, http_scheme, open_id_connect_scheme, mutual_tls_scheme, oauth2_scheme, implicit_flow, password_flow, client_credentials_flow, authorization_code_flow, device_authorization_flow, scopes_object, Kind, text, flag, whole, numeral, any, word_of, parameter_in, parameter_style, http_auth_scheme, version, list_of, map_of, entries_of, ref_or, named, schema, schema_type, schema_format, array_items, additional_properties, security_scheme, flows, Mark, required, optional, or_null, defaulted, Row}
 
 abbrev pub row : List ℕ → Mark → Kind → Row
 row name mark kind = record { name = name; mark = mark; kind = kind }
@@ -116,7 +116,7 @@ table operation_object =
 -- External Documentation Object: section 4.8.11
 table external_docs_object =
     row (codes "url") required text
-    ∷ row (codes "description") nullable text ∷ []
+    ∷ row (codes "description") or_null text ∷ []
 -- Parameter Object: section 4.8.12
 table parameter_object =
     row (codes "name") required text

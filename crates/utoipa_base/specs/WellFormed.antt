@@ -55,9 +55,9 @@ abbrev pub AllExtensions : Option Members → Type 0
 AllExtensions e = all_extensions (members_or_none e) ≡ true
 
 -- no name of an entry begins `x-`
-abbrev pub no_extension : Entries → Bool
-no_extension no_entries = true
-no_extension (entry k d es) = not (is_extension k) && no_extension es
+abbrev pub names_no_extension : Entries → Bool
+names_no_extension no_entries = true
+names_no_extension (entry k d es) = not (is_extension k) && names_no_extension es
 
 -- a flow stands under its own key
 abbrev pub KeyOf : List ℕ → Doc → Type 0
@@ -69,41 +69,41 @@ abbrev pub IsNoReference : Data → Type 0
 IsNoReference t = option_and_then as_str (get (codes "$ref") t) ≡ None
 
 unfoldable mutual
-  pub IsWellNamed : Doc → Type 0
-  IsWellNamed (text_doc s) = Unit {0}
-  IsWellNamed (flag_doc b) = Unit {0}
-  IsWellNamed (whole_doc n) = Unit {0}
-  IsWellNamed (int_doc z) = Unit {0}
-  IsWellNamed (uint_doc n) = Unit {0}
-  IsWellNamed (tree_doc d) = Unit {0}
-  IsWellNamed (word_doc s) = Unit {0}
-  IsWellNamed (custom_doc s) = Unit {0}
-  IsWellNamed (types_doc d) = IsWellNamed d
-  IsWellNamed any_value_doc = Unit {0}
-  IsWellNamed none_doc = Unit {0}
-  IsWellNamed (some_doc d) = IsWellNamed d
-  IsWellNamed (ref_doc k d) = IsWellNamed d
-  IsWellNamed (own_doc d) = IsWellNamed d × IsNoReference (write d)
-  IsWellNamed (schema_doc d) = IsWellNamed d
-  IsWellNamed (tagged_doc name word d) = IsWellNamed d
-  IsWellNamed (flow_doc d) = IsWellNamed d
-  IsWellNamed (list_doc ds) = AreWellNamed ds
-  IsWellNamed (map_doc es) = AreWellNamedEntries es
-  IsWellNamed (entries_doc es e) = AreWellNamedEntries es × (no_extension es ≡ true) × AllExtensions e
-  IsWellNamed (table_doc n ds e) = AreWellNamed ds × AllExtensions e
+  pub IsUnambiguous : Doc → Type 0
+  IsUnambiguous (text_doc s) = Unit {0}
+  IsUnambiguous (flag_doc b) = Unit {0}
+  IsUnambiguous (whole_doc n) = Unit {0}
+  IsUnambiguous (int_doc z) = Unit {0}
+  IsUnambiguous (uint_doc n) = Unit {0}
+  IsUnambiguous (tree_doc d) = Unit {0}
+  IsUnambiguous (word_doc s) = Unit {0}
+  IsUnambiguous (custom_doc s) = Unit {0}
+  IsUnambiguous (types_doc d) = IsUnambiguous d
+  IsUnambiguous any_value_doc = Unit {0}
+  IsUnambiguous none_doc = Unit {0}
+  IsUnambiguous (some_doc d) = IsUnambiguous d
+  IsUnambiguous (ref_doc k d) = IsUnambiguous d
+  IsUnambiguous (own_doc d) = IsUnambiguous d × IsNoReference (write d)
+  IsUnambiguous (schema_doc d) = IsUnambiguous d
+  IsUnambiguous (tagged_doc name word d) = IsUnambiguous d
+  IsUnambiguous (flow_doc d) = IsUnambiguous d
+  IsUnambiguous (list_doc ds) = AreUnambiguous ds
+  IsUnambiguous (map_doc es) = AreUnambiguousEntries es
+  IsUnambiguous (entries_doc es e) = AreUnambiguousEntries es × (names_no_extension es ≡ true) × AllExtensions e
+  IsUnambiguous (table_doc n ds e) = AreUnambiguous ds × AllExtensions e
 
-  pub AreWellNamed : Docs → Type 0
-  AreWellNamed no_docs = Unit {0}
-  AreWellNamed (doc d ds) = IsWellNamed d × AreWellNamed ds
+  pub AreUnambiguous : Docs → Type 0
+  AreUnambiguous no_docs = Unit {0}
+  AreUnambiguous (doc d ds) = IsUnambiguous d × AreUnambiguous ds
 
-  pub AreWellNamedEntries : Entries → Type 0
-  AreWellNamedEntries no_entries = Unit {0}
-  AreWellNamedEntries (entry key d es) = IsWellNamed d × KeyOf key d × AreWellNamedEntries es
+  pub AreUnambiguousEntries : Entries → Type 0
+  AreUnambiguousEntries no_entries = Unit {0}
+  AreUnambiguousEntries (entry key d es) = IsUnambiguous d × KeyOf key d × AreUnambiguousEntries es
 
 -- plain, and well-formed at every place
 abbrev pub IsWellFormed : Doc → Type 0
-IsWellFormed d = IsPlain d × IsWellNamed d
+IsWellFormed d = IsPlain d × IsUnambiguous d
 
 -- what a plain tree reads as
-abbrev pub Reads : Kind → Data → Doc → Type 0
-Reads k t d = (has_float t ≡ false) × (read k t ≡ Some d)
+abbrev pub ReadsAs : Kind → Data → Doc → Type 0
+ReadsAs k t d = (has_float t ≡ false) × (read k t ≡ Some d)

@@ -7,7 +7,7 @@ ghost use Rattle.serde_json.specs.View.{view, members_view};
 ghost use Rattle.serde_json.specs.Written.{members_have_float};
 
 use crate::fraction::members_have_fraction;
-use crate::same::same_members;
+use crate::same_trees::same_members;
 use merging::merge_members;
 use serde_json::{Map, Value};
 use std::alloc::{AllocError, Global};

@@ -8,7 +8,7 @@ ghost use Rattle.utoipa_base.specs.Docs.{Doc};
 ghost use Rattle.utoipa_base.specs.Reading.{read};
 ghost use Rattle.utoipa_base.specs.NormalForm.{normal_form};
 ghost use Rattle.utoipa_base.specs.Shape.{IsOf, value_of};
-ghost use Rattle.utoipa_base.specs.WellFormed.{IsPlain, IsWellFormed, IsWellNamed, Reads};
+ghost use Rattle.utoipa_base.specs.WellFormed.{IsPlain, IsWellFormed, IsUnambiguous, ReadsAs};
 ghost use Rattle.utoipa_base.specs.Values.{values, names_values, are_distinct};
 ghost use Rattle.utoipa_base.specs.Writing.{write};
 
@@ -17,8 +17,8 @@ use serde_json::Value;
 
 /// A well-formed value reads back from its own tree as its normal form. It need not be plain for its tree to read so.
 pub fn reads_back<T: Tree>(value: &T)
-    ensures well_formed { IsWellFormed (T.doc value.now) → Reads T.kind (write (T.doc value.now)) (normal_form (T.doc value.now)) }
-    ensures with_fractions { IsWellNamed (T.doc value.now)
+    ensures well_formed { IsWellFormed (T.doc value.now) → ReadsAs T.kind (write (T.doc value.now)) (normal_form (T.doc value.now)) }
+    ensures with_fractions { IsUnambiguous (T.doc value.now)
         → read T.kind (write (T.doc value.now)) ≡ Some (normal_form (T.doc value.now)) }
 {}
 
@@ -34,7 +34,7 @@ pub fn normal_form_twice<T: Tree>(value: &T)
 
 /// Two well-formed values that are written as one tree have one normal form.
 pub fn one_normal_form<T: Tree>(left: &T, right: &T)
-    ensures { IsWellNamed (T.doc left.now) → IsWellNamed (T.doc right.now)
+    ensures { IsUnambiguous (T.doc left.now) → IsUnambiguous (T.doc right.now)
         → write (T.doc left.now) ≡ write (T.doc right.now) → normal_form (T.doc left.now) ≡ normal_form (T.doc right.now) }
 {}
 

@@ -15,7 +15,7 @@ pub mod readings;
 pub mod refs;
 pub mod required;
 pub mod rows;
-pub mod same;
+pub mod same_trees;
 mod scalar;
 pub mod tree;
 pub mod words;
@@ -37,9 +37,9 @@ pub use readings::{Counted, Readings};
 pub use refs::{Ref, RefBuilder, RefOr};
 pub use required::Required;
 pub use rows::{
-    clone_option, row_default, row_nullable, row_option, row_required, write_nullable,
-    write_option, write_required,
+    clone_option, row_default, row_option, row_or_null, row_required, write_option, write_or_null,
+    write_required,
 };
-pub use same::{same_members, same_tree};
+pub use same_trees::{same_members, same_tree};
 pub use tree::Tree;
 pub use words::{Word, read_word, write_word};

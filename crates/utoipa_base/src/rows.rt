@@ -2,7 +2,7 @@
 ghost use Rattle.std.specs.Prelude.{◌≡◌, ◌≤◌, ◌<◌, ◌+◌, None, Some, option_map, IfOk, IfErr, OnOk};
 ghost use Rattle.serde_json.specs.Find.{get};
 ghost use Rattle.serde_json.specs.View.{view, members_view};
-ghost use Rattle.utoipa_base.specs.Kinds.{required, optional, nullable};
+ghost use Rattle.utoipa_base.specs.Kinds.{required, optional, or_null};
 ghost use Rattle.utoipa_base.specs.Docs.{option_doc};
 ghost use Rattle.utoipa_base.specs.Faults.{Refuses};
 ghost use Rattle.utoipa_base.specs.Fields.{field, present, put_field};
@@ -65,14 +65,14 @@ pub fn row_option<T: Tree>(
 
 /// The value of a member that is written as null where there is none, or none where it is absent or null.
 #[tactic(auto, using(crate::proofs::ByRows::by_row, crate::proofs::Values::counts, crate::proofs::Places::places))]
-pub fn row_nullable<T: Tree>(
+pub fn row_or_null<T: Tree>(
     alloc: Global,
     tree: &Value,
     name: &'static str,
     readings: &mut Readings,
 ) -> Result<Option<T>, ReadFault>
-    ensures ok { IfOk result (λ o. field (row name.now nullable T.kind) (view tree.now) ≡ Some (option_of T.doc o)) }
-    ensures err { IfErr result (Refuses (field (row name.now nullable T.kind) (view tree.now))) }
+    ensures ok { IfOk result (λ o. field (row name.now or_null T.kind) (view tree.now) ≡ Some (option_of T.doc o)) }
+    ensures err { IfErr result (Refuses (field (row name.now or_null T.kind) (view tree.now))) }
     ensures grows { readings.old ≤ readings.new }
     ensures at_most { readings.new ≤ readings.old + values_of (get name.now (view tree.now)) }
     ensures at_least { IfOk result (λ o. readings.new < u64.MAX
@@ -135,14 +135,14 @@ pub fn write_option<T: Tree>(
 
 /// Writes an optional member, as null where it is none.
 #[tactic(auto, using(crate::proofs::ByRows::by_row, crate::proofs::ByKind::by_kind))]
-pub fn write_nullable<T: Tree>(
+pub fn write_or_null<T: Tree>(
     members: &mut Map<String, Value>,
     alloc: Global,
     name: &'static str,
     value: &Option<T>,
 ) -> Result<(), AllocError>
     ensures { OnOk result (members_view members.new.entries
-        ≡ put_field (row name.now nullable T.kind) (option_of T.doc value.now) (members_view members.old.entries)) }
+        ≡ put_field (row name.now or_null T.kind) (option_of T.doc value.now) (members_view members.old.entries)) }
 {
     match value {
         Some(value) => put(members, alloc, name, value.to_value(alloc)?),

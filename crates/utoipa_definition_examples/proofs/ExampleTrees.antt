@@ -3,7 +3,7 @@ use Prim.Native.String.{String}
 use Rattle.std.specs.Prelude.{◌≡◌, ℕ, List, [], ◌∷◌, if◌then◌else◌, Option, None, Some, option_map, codes}
 use Rattle.std.specs.Str.{bytes_eq}
 use Rattle.serde_json.specs.Data.{unsigned, Data, number, string, array, object, Items, no_items, item, Members, no_members, member}
-use Rattle.utoipa_base.specs.Kinds.{ObjectType, Kind, Mark, required, optional, nullable, defaulted, Row}
+use Rattle.utoipa_base.specs.Kinds.{ObjectType, Kind, Mark, required, optional, or_null, defaulted, Row}
 use Rattle.utoipa_base.specs.Docs.{Doc, none_doc, table_doc, Docs, no_docs, doc, Entries, no_entries, entry}
 use Rattle.utoipa_base.specs.Tables.{table}
 use Rattle.utoipa_base.specs.Reading.{read, empty_doc}
@@ -43,7 +43,7 @@ entries (e ∷ es) = entry (codes e.0) e.1 (entries es)
 abbrev pub absent : Mark → Kind → Doc
 absent required k = empty_doc k
 absent optional k = none_doc
-absent nullable k = none_doc
+absent or_null k = none_doc
 absent defaulted k = empty_doc k
 
 abbrev pub given : List ℕ → Doc → List (String × Doc) → Doc

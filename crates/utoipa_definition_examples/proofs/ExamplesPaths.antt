@@ -7,7 +7,7 @@ use Rattle.utoipa_base.specs.Tables.{paths, responses, callback}
 use Rattle.utoipa_base.specs.Version.{read_version}
 use Rattle.utoipa_base.specs.Reading.{reader}
 use Rattle.utoipa_base.specs.Writing.{write}
-use Rattle.utoipa_base.specs.WellFormed.{IsWellNamed}
+use Rattle.utoipa_base.specs.WellFormed.{IsUnambiguous}
 use Rattle.utoipa_definition_examples.proofs.ExampleTrees.{members, members_of, list, str, num, Prints, Keeps, IsRefused, IsReadAs, built, entries}
 
 -- ---- OpenAPI Object
@@ -122,8 +122,8 @@ unfolding reader write
 callback_with_reference_back = refl
 
 -- it is not well-formed
-callback_with_reference_ill-formed : IsWellNamed (map_doc (entries (("e", own_doc (built path_item_object (("$ref", some_doc (text_doc (codes "#/p"))) ∷ ("summary", some_doc (text_doc (codes "s"))) ∷ []) None)) ∷ []))) → ⊥
-unfolding IsWellNamed write
+callback_with_reference_ill-formed : IsUnambiguous (map_doc (entries (("e", own_doc (built path_item_object (("$ref", some_doc (text_doc (codes "#/p"))) ∷ ("summary", some_doc (text_doc (codes "s"))) ∷ []) None)) ∷ []))) → ⊥
+unfolding IsUnambiguous write
 callback_with_reference_ill-formed t = let e = t.0.1 in cc
 
 -- the same item in paths reads back as itself
@@ -132,8 +132,8 @@ unfolding reader write
 path_with_reference_back = refl
 
 -- and there it is well-formed
-path_with_reference_well-formed : IsWellNamed (entries_doc (entries (("e", built path_item_object (("$ref", some_doc (text_doc (codes "#/p"))) ∷ ("summary", some_doc (text_doc (codes "s"))) ∷ []) None) ∷ [])) None)
-unfolding IsWellNamed write
+path_with_reference_well-formed : IsUnambiguous (entries_doc (entries (("e", built path_item_object (("$ref", some_doc (text_doc (codes "#/p"))) ∷ ("summary", some_doc (text_doc (codes "s"))) ∷ []) None) ∷ [])) None)
+unfolding IsUnambiguous write
 path_with_reference_well-formed = ((((tt, (tt, (tt, (tt, (tt, (tt, (tt, (tt, (tt, (tt, (tt, (tt, (tt, (tt, (tt, tt))))))))))))))), refl), tt, tt), refl, refl)
 
 -- a member of a callback whose name begins `x-` is an expression like any other

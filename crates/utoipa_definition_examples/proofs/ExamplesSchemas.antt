@@ -6,7 +6,7 @@ use Rattle.utoipa_base.specs.Docs.{flag_doc, int_doc, uint_doc, tree_doc, word_d
 use Rattle.utoipa_base.specs.Reading.{reader}
 use Rattle.utoipa_base.specs.Writing.{write}
 use Rattle.utoipa_base.specs.NormalForm.{normal_form}
-use Rattle.utoipa_base.specs.WellFormed.{IsWellNamed}
+use Rattle.utoipa_base.specs.WellFormed.{IsUnambiguous}
 use Rattle.utoipa_base.specs.Values.{values, schema_count}
 use Rattle.utoipa_definition_examples.proofs.ExampleTrees.{members, list, str, num, Prints, Keeps, IsRefused, IsReadAs, schemas_of, built}
 
@@ -108,8 +108,8 @@ unfolding reader write
 combination_null_type = refl
 
 -- a combination with a type is well-formed
-typed_all_of_well-formed : IsWellNamed (schema_doc (built all_of_schema (("type", word_doc (codes "object")) ∷ ("default", some_doc (tree_doc null)) ∷ []) (Some no_members)))
-unfolding IsWellNamed write
+typed_all_of_well-formed : IsUnambiguous (schema_doc (built all_of_schema (("type", word_doc (codes "object")) ∷ ("default", some_doc (tree_doc null)) ∷ []) (Some no_members)))
+unfolding IsUnambiguous write
 typed_all_of_well-formed = ((tt, (tt, (tt, (tt, (tt, (tt, (tt, (tt, tt)))))))), refl)
 
 -- its normal form has no null default and no empty extensions

@@ -6,7 +6,7 @@ use Rattle.utoipa_base.specs.Docs.{text_doc, some_doc, tagged_doc, flow_doc, map
 use Rattle.utoipa_base.specs.Tables.{security_requirement}
 use Rattle.utoipa_base.specs.Reading.{reader}
 use Rattle.utoipa_base.specs.Writing.{write}
-use Rattle.utoipa_base.specs.WellFormed.{IsWellNamed}
+use Rattle.utoipa_base.specs.WellFormed.{IsUnambiguous}
 use Rattle.utoipa_definition_examples.proofs.ExampleTrees.{members, members_of, list, str, num, Prints, Keeps, IsRefused, IsReadAs, built, entries}
 
 -- ---- Security Scheme Object
@@ -234,8 +234,8 @@ unfolding reader write
 implicit_under_password_refused = refl
 
 -- it is not well-formed
-implicit_under_password_ill-formed : IsWellNamed (map_doc (entries (("password", flow_doc (built implicit_flow (("authorizationUrl", text_doc (codes "a")) ∷ []) None)) ∷ []))) → ⊥
-unfolding IsWellNamed
+implicit_under_password_ill-formed : IsUnambiguous (map_doc (entries (("password", flow_doc (built implicit_flow (("authorizationUrl", text_doc (codes "a")) ∷ []) None)) ∷ []))) → ⊥
+unfolding IsUnambiguous
 implicit_under_password_ill-formed t = let e = t.1 in cc
 
 -- an implicit flow under another key reads back as itself
@@ -244,13 +244,13 @@ unfolding reader write
 other_key_back = refl
 
 -- yet it is not well-formed, since its key is no word of its kind
-other_key_ill-formed : IsWellNamed (map_doc (entries (("k", flow_doc (built implicit_flow (("authorizationUrl", text_doc (codes "a")) ∷ []) None)) ∷ []))) → ⊥
-unfolding IsWellNamed
+other_key_ill-formed : IsUnambiguous (map_doc (entries (("k", flow_doc (built implicit_flow (("authorizationUrl", text_doc (codes "a")) ∷ []) None)) ∷ []))) → ⊥
+unfolding IsUnambiguous
 other_key_ill-formed t = let e = t.1 in cc
 
 -- under its own key it is
-own_key_well-formed : IsWellNamed (map_doc (entries (("implicit", flow_doc (built implicit_flow (("authorizationUrl", text_doc (codes "a")) ∷ []) None)) ∷ [])))
-unfolding IsWellNamed write
+own_key_well-formed : IsUnambiguous (map_doc (entries (("implicit", flow_doc (built implicit_flow (("authorizationUrl", text_doc (codes "a")) ∷ []) None)) ∷ [])))
+unfolding IsUnambiguous write
 own_key_well-formed = (((tt, (tt, (tt, tt))), refl), refl, tt)
 
 -- ---- Security Requirement Object

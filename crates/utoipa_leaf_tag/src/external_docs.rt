@@ -6,8 +6,8 @@ use serde_json::Value;
 use std::alloc::{AllocError, Global};
 use utoipa_base::{
     Extensions, ReadFault, Readings, Same, Tree, clone_extensions, clone_option,
-    extensions_have_fraction, option_has_fraction, read_extensions, row_nullable, row_required,
-    same_extensions, same_option, write_nullable, write_required, written_extensions,
+    extensions_have_fraction, option_has_fraction, read_extensions, row_or_null, row_required,
+    same_extensions, same_option, write_or_null, write_required, written_extensions,
 };
 
 /// An External Documentation Object (OpenAPI 3.1, section 4.8.11): documentation that stands elsewhere.
@@ -92,7 +92,7 @@ impl Tree for ExternalDocs {
             return Err(ReadFault::Kind("ExternalDocs"));
         }
         let url = row_required(alloc, tree, "url", readings)?;
-        let description = row_nullable(alloc, tree, "description", readings)?;
+        let description = row_or_null(alloc, tree, "description", readings)?;
         let extensions = read_extensions(alloc, tree)?;
         Ok(ExternalDocs {
             url,
@@ -104,7 +104,7 @@ impl Tree for ExternalDocs {
     fn to_value(&self, alloc: Global) -> Result<Value, AllocError> {
         let mut members = written_extensions(alloc, &self.extensions)?;
         write_required(&mut members, alloc, "url", &self.url)?;
-        write_nullable(&mut members, alloc, "description", &self.description)?;
+        write_or_null(&mut members, alloc, "description", &self.description)?;
         Ok(Value::Object(members))
     }
 
