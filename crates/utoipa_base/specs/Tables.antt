@@ -236,8 +236,8 @@ table xml_object =
     ∷ row (codes "nodeType") optional text
     ∷ row (codes "attribute") optional flag
     ∷ row (codes "wrapped") optional flag ∷ []
--- Schema Object: section 4.8.24. Each of the five tables keeps the keywords of its own rows alone, and beside `$ref` those of the
--- Reference Object are kept. Stricter, for all five: true and false are schemas at `additionalProperties`, and false at `items`, alone.
+-- Schema Object: section 4.8.24. Each of its five tables keeps the keywords of its own rows alone, and beside `$ref` those of the Reference
+-- Object are kept. For all five it is stricter that true is a schema at `additionalProperties` alone, and false there and at `items` alone.
 -- Schema Object with `oneOf` (JSON Schema 2020-12, Core, section 10.2.1.3)
 -- not kept: other keywords, as `not`, `deprecated`, `externalDocs`, `xml`, `properties`, `allOf`
 table one_of_schema =
