@@ -15,7 +15,7 @@ use Rattle.utoipa_base.specs.Kinds.{ObjectType, Kind, named, Mark, required, opt
 use Rattle.utoipa_base.specs.Docs.{Doc, none_doc, some_doc, table_doc, Docs, no_docs, doc}
 use Rattle.utoipa_base.specs.Tables.{table, has_extensions, row}
 use Rattle.utoipa_base.specs.Extensions.{extensions_of, extensions_at, members_or_none}
-use Rattle.utoipa_base.specs.Reading.{reader, parts, part, fits, read, read_rows, both, is_null}
+use Rattle.utoipa_base.specs.Reading.{reader, parts, part, part_of, fits, read, read_rows, both, is_null}
 use Rattle.utoipa_base.specs.Writing.{write, write_rows, is_empty, put_unless}
 use Rattle.utoipa_base.specs.Fields.{field, field_of, present, fields, put_field}
 
@@ -77,30 +77,20 @@ pub ruleset by_row = (present-at, put_field-null, put_field-there, put_field-emp
 
 -- ---- a whole table
 
-from_part : (m : Mark) (k : Kind) (o : Option Data) → fits m k (option_map (λ d. (is_null d, reader d)) o) ≡ field_of m k o
-from_part required k None = refl
-from_part required k (Some d) = refl
-from_part optional k None = refl
-from_part optional k (Some d) = refl
-from_part or_null k None = refl
-from_part or_null k (Some d) = refl
-from_part defaulted k None = refl
-from_part defaulted k (Some d) = refl
-
 part_by : (o : Ordering) {A B : Type 0} (f : A → B) (a : A) (x : Option A) (y : Option B) → y ≡ option_map f x → match_ordering o y (Some (f a)) y ≡ option_map f (match_ordering o x (Some a) x)
 part_by Less f a x y e = e
 part_by Equal f a x y e = refl
 part_by Greater f a x y e = e
 
-pub part-parts : (name : List ℕ) (ms : Members) → part name (parts ms) ≡ option_map (λ d. (is_null d, reader d)) (get_member name ms)
+pub part-parts : (name : List ℕ) (ms : Members) → part name (parts ms) ≡ option_map part_of (get_member name ms)
 unfolding parts
 part-parts name no_members = refl
-part-parts name (member k d ms) = part_by (slice_cmp nat_cmp name k) (λ e. (is_null e, reader e)) d _ _ (part-parts name ms)
+part-parts name (member k d ms) = part_by (slice_cmp nat_cmp name k) part_of d _ _ (part-parts name ms)
 
 rows_by_fields : (rs : List Row) (ms : Members) → read_rows rs (parts ms) ≡ fields rs (object ms)
 unfolding field fields
 rows_by_fields [] ms = refl
-rows_by_fields (r ∷ rs) ms = ap (λ x. both x (read_rows rs (parts ms))) (ap (fits r.mark r.kind) (part-parts r.name ms) ∙ from_part r.mark r.kind (get_member r.name ms))
+rows_by_fields (r ∷ rs) ms = ap (λ x. both x (read_rows rs (parts ms))) (ap (fits r.mark r.kind) (part-parts r.name ms))
     ∙ ap (both (field_of r.mark r.kind (get_member r.name ms))) (rows_by_fields rs ms)
 
 pub read-named : (n : ObjectType) (d : Data) → is_some (as_object d) ≡ true → read (named n) d ≡ option_map (λ ds. table_doc n ds (extensions_at (has_extensions n) d)) (fields (table n) d)

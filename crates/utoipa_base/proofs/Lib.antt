@@ -1,6 +1,7 @@
 pub mod BoolFacts
 pub mod TableNames
 pub mod Values
+pub mod WithoutSchemas
 pub mod ExtensionMembers
 pub mod ByKind
 pub mod Maps

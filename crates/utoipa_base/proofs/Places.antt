@@ -1,5 +1,5 @@
 -- References, and what stands in their place.
-use Rattle.std.proofs.Common.{string_bytes, ◌≡◌, ℕ, Bool, ◌+◌, ◌<◌, ◌≤◌, List, false, Option, Some, None, option_map, refl, ap, ◌∙◌, arith, nat_lt, if◌then◌else◌}
+use Rattle.std.proofs.Common.{◌≡◌, ℕ, Bool, ◌+◌, ◌<◌, ◌≤◌, List, false, Option, Some, None, option_map, refl, ap, ◌∙◌, arith, nat_lt, if◌then◌else◌}
 use Rattle.std.proofs.lemmas.Bool.Decides.{nat_tests}
 use Rattle.serde_json.specs.Data.{Data, null, boolean, number, string, array, object, Members}
 use Rattle.utoipa_base.specs.declared.fault.ReadFault.{ReadFault}
@@ -9,11 +9,12 @@ use Rattle.utoipa_base.specs.Kinds.{ObjectType, reference_object, Kind, text, fl
 use Rattle.utoipa_base.specs.Docs.{Doc, text_doc, flag_doc, whole_doc, tree_doc, none_doc, some_doc, ref_doc, own_doc, list_doc, map_doc, table_doc, Docs, no_docs, doc, Entries, no_entries}
 use Rattle.utoipa_base.specs.Reading.{reader, read, or_else, empty_doc}
 use Rattle.utoipa_base.specs.Writing.{write}
-use Rattle.serde_json.specs.View.{view}
-use Rattle.utoipa_base.specs.Views.{text_of, tree_of, option_of}
+use Rattle.utoipa_base.specs.OfKind.{reference_of_kind}
+use Rattle.utoipa_base.specs.Views.{option_of}
 use Rattle.utoipa_base.specs.Refs.{reference_doc}
 use Rattle.utoipa_base.specs.declared.refs.Ref.{Ref}
 use Rattle.utoipa_base.specs.Values.{values, schema_count, docs_schema_count, entries_schema_count, is_schema}
+use Rattle.utoipa_base.proofs.WithoutSchemas.{counts_none}
 
 -- a fault other than memory: there is no document
 pub refused : (o : Option Doc) (e : ReadFault) → Refuses o e → (e ≡ Memory → ⊥) → o ≡ None
@@ -136,13 +137,7 @@ option_places f each (Some x) = each x
 
 -- a reference holds no schema
 pub schema_count-reference : (r : Ref) → schema_count (reference_doc r) ≡ 0
-unfolding schema_count docs_schema_count
-schema_count-reference r =
-    let read_only = option_places flag_doc schema_count-flag r.read_only in
-    let write_only = option_places flag_doc schema_count-flag r.write_only in
-    let default = option_places tree_of (λ v. schema_count-tree (view v)) r.default in
-    let title = option_places text_of (λ s. schema_count-text (string_bytes s)) r.title in
-    omega (arith, read_only, write_only, default, title)
+schema_count-reference r = counts_none (reference_doc r) (named reference_object) refl (reference_of_kind r)
 
 pub ruleset places = (schema_count-empty, schema_count-reference, schema_count-text, schema_count-flag, schema_count-whole, schema_count-tree, schema_count-none, schema_count-some, own_places, schema_count-list, schema_count-map)
 

@@ -5,14 +5,14 @@ use Rattle.std.specs.Cmp.Lexicographic.{slice_cmp}
 use Rattle.serde_json.specs.Data.{Num, Data, null, boolean, number, string, array, object, Items, no_items, item, Members, no_members, member, put}
 use Rattle.serde_json.specs.Find.{as_integer, as_u64, of_integer, is_float}
 use Rattle.serde_json.specs.Written.{has_float, items_have_float, members_have_float}
-use Rattle.utoipa_base.specs.Kinds.{ObjectType, reference_object, one_of_schema, all_of_schema, any_of_schema, array_schema, object_schema, implicit_flow, password_flow, client_credentials_flow, authorization_code_flow, device_authorization_flow, type_word, known_format, Kind, text, flag, whole, numeral, any, word_of, version, list_of, map_of, entries_of, ref_or, named, schema, schema_type, schema_format, array_items, additional_properties, security_scheme, api_key, flows, Mark, required, optional, or_null, defaulted, Row}
+use Rattle.utoipa_base.specs.Kinds.{ObjectType, reference_object, one_of_schema, all_of_schema, any_of_schema, array_schema, object_schema, type_word, known_format, Kind, text, flag, whole, numeral, any, word_of, version, list_of, map_of, entries_of, ref_or, named, schema, schema_type, schema_format, array_items, additional_properties, security_scheme, api_key, flows, Mark, required, optional, or_null, defaulted, Row}
 use Rattle.utoipa_base.specs.Words.{is_word}
 use Rattle.utoipa_base.specs.Version.{read_version}
 use Rattle.utoipa_base.specs.Choices.{chosen, scheme_types, api_key_places, flow_keys, schema_keywords}
 use Rattle.utoipa_base.specs.Docs.{Doc, text_doc, flag_doc, whole_doc, int_doc, uint_doc, tree_doc, word_doc, custom_doc, types_doc, any_value_doc, none_doc, some_doc, ref_doc, own_doc, schema_doc, tagged_doc, flow_doc, list_doc, map_doc, entries_doc, table_doc, Docs, no_docs, doc, Entries, no_entries, entry}
 use Rattle.utoipa_base.specs.Tables.{table, has_extensions}
 use Rattle.utoipa_base.specs.Extensions.{is_extension, extension_members, extensions_of, some_if_any, members_or_none}
-use Rattle.utoipa_base.specs.Reading.{both, both_entries, only_if, Parts, part, entry_parts, empty_doc, fits, read_rows, read_table, read_items, read_entries, is_named, read_schema, read_ref_or, text_at, read_alternative, read_tagged, read_api_key, read_scheme, read_flow, read_flows, read_null, read_boolean, numeral_doc, read_number, read_word, read_format, read_string, read_array, read_object, reader, item_readers, parts, read}
+use Rattle.utoipa_base.specs.Reading.{both, both_entries, only_if, Part, part_is_null, part_reads, Parts, part_name, named_part, part, entry_parts, empty_doc, fits, read_rows, read_table, read_items, read_entries, is_named, read_schema, read_ref_or, text_at, read_alternative, read_tagged, read_api_key, read_scheme, first_that_fits, read_flow, read_flows, read_null, read_boolean, numeral_doc, read_number, read_word, read_format, read_string, read_array, read_object, reader, item_readers, parts, read}
 use Rattle.utoipa_base.specs.Writing.{write, write_items, write_entries, write_rows, left_out, put_unless, merge_member, merge_members, with_member}
 use Rattle.utoipa_base.specs.WellFormed.{has_fraction, docs_have_fraction, entries_have_fraction, IsPlain}
 use Rattle.utoipa_base.proofs.BoolFacts.{or_first, or_second}
@@ -44,7 +44,7 @@ ItemsPlain (r ∷ rs) = ReadsPlain r × ItemsPlain rs
 -- what the members' readers read is plain
 abbrev PartsPlain : Parts → Type 0
 PartsPlain [] = Unit {0}
-PartsPlain (p ∷ ps) = ReadsPlain p.1.1 × PartsPlain ps
+PartsPlain (p ∷ ps) = ReadsPlain (part_reads (named_part p)) × PartsPlain ps
 
 -- neither test holds
 or_false : (a b : Bool) → a ≡ false → b ≡ false → (a || b) ≡ false
@@ -147,25 +147,25 @@ items_plain k (r ∷ rs) h = both_plain (r k) (read_items k rs) (h.0 k) (items_p
 entries_plain : (k : Kind) (ps : Parts) → PartsPlain ps → IfSome (read_entries k ps) EntriesPlain
 unfolding entries_have_fraction
 entries_plain k [] h = refl
-entries_plain k (p ∷ ps) h = both_entries_plain p.0 (p.1.1 k) (read_entries k ps) (h.0 k) (entries_plain k ps h.1)
+entries_plain k (p ∷ ps) h = both_entries_plain (part_name p) (part_reads (named_part p) k) (read_entries k ps) (h.0 k) (entries_plain k ps h.1)
 
 -- the members that are no extensions, with one more
-kept_parts : (b : Bool) (p : List ℕ × (Bool × (Kind → Option Doc))) (ps : Parts) → ReadsPlain p.1.1 → PartsPlain ps → PartsPlain (cond b ps (p ∷ ps))
+kept_parts : (b : Bool) (p : List ℕ × Part) (ps : Parts) → ReadsPlain (part_reads (named_part p)) → PartsPlain ps → PartsPlain (cond b ps (p ∷ ps))
 kept_parts true p ps g h = h
 kept_parts false p ps g h = (g, h)
 
 -- the members that are no extensions
 entry_parts_plain : (ps : Parts) → PartsPlain ps → PartsPlain (entry_parts ps)
 entry_parts_plain [] h = tt
-entry_parts_plain (p ∷ ps) h = kept_parts (is_extension p.0) p (entry_parts ps) h.0 (entry_parts_plain ps h.1)
+entry_parts_plain (p ∷ ps) h = kept_parts (is_extension (part_name p)) p (entry_parts ps) h.0 (entry_parts_plain ps h.1)
 
 -- ---- rows
 
 -- the member at a name
-part_plain : (name : List ℕ) (ps : Parts) → PartsPlain ps → IfSome (part name ps) (λ m. ReadsPlain m.1)
+part_plain : (name : List ℕ) (ps : Parts) → PartsPlain ps → IfSome (part name ps) (λ m. ReadsPlain (part_reads m))
 part_plain name [] h = tt
 part_plain name (p ∷ ps) h =
-    by_order (λ o. IfSome o (λ m. ReadsPlain m.1)) (slice_cmp nat_cmp name p.0) (part name ps) (Some p.1) (part name ps) (part_plain name ps h.1) h.0 (part_plain name ps h.1)
+    by_order (λ o. IfSome o (λ m. ReadsPlain (part_reads m))) (slice_cmp nat_cmp name (part_name p)) (part name ps) (Some (named_part p)) (part name ps) (part_plain name ps h.1) h.0 (part_plain name ps h.1)
 
 -- what an absent member is
 empty_plain : (k : Kind) → IsPlain (empty_doc k)
@@ -189,14 +189,14 @@ optional_plain true o h = refl
 optional_plain false o h = some_plain o h
 
 -- the field of a row
-field_plain : (m : Mark) (k : Kind) (o : Option (Bool × (Kind → Option Doc))) → IfSome o (λ p. ReadsPlain p.1) → IfSome (fits m k o) IsPlain
+field_plain : (m : Mark) (k : Kind) (o : Option Part) → IfSome o (λ p. ReadsPlain (part_reads p)) → IfSome (fits m k o) IsPlain
 unfolding has_fraction
 field_plain required k None h = tt
 field_plain required k (Some p) h = h k
 field_plain optional k None h = refl
-field_plain optional k (Some p) h = optional_plain p.0 (p.1 k) (h k)
+field_plain optional k (Some p) h = optional_plain (part_is_null p) (part_reads p k) (h k)
 field_plain or_null k None h = refl
-field_plain or_null k (Some p) h = optional_plain p.0 (p.1 k) (h k)
+field_plain or_null k (Some p) h = optional_plain (part_is_null p) (part_reads p k) (h k)
 field_plain defaulted k None h = empty_plain k
 field_plain defaulted k (Some p) h = h k
 
@@ -274,22 +274,25 @@ scheme_plain : (ms : Members) (ps : Parts) → MembersPlain ms → PartsPlain ps
 scheme_plain ms ps g h api_key = api_key_plain ms ps g h
 scheme_plain ms ps g h k = alternative_plain ms ps g h k
 
+-- the first type that fits
+first_plain : (cs : List (List ℕ × ObjectType)) (f : Kind → Option Doc) → ReadsPlain f → IfSome (first_that_fits cs f) IsPlain
+first_plain [] f h = tt
+first_plain (c ∷ cs) f h = if_else IsPlain (f (named c.1)) (first_that_fits cs f) (h (named c.1)) (first_plain cs f h)
+
 -- a flow
 flow_plain : (o : Option ObjectType) (f : Kind → Option Doc) → ReadsPlain f → IfSome (read_flow o f) IsPlain
 unfolding has_fraction
 flow_plain (Some n) f h = if_map IsPlain IsPlain flow_doc (λ x p. p) (f (named n)) (h (named n))
-flow_plain None f h =
-    if_map IsPlain IsPlain flow_doc (λ x p. p) _
-    (if_else IsPlain _ _ (h (named implicit_flow))
-    (if_else IsPlain _ _ (h (named password_flow))
-    (if_else IsPlain _ _ (h (named client_credentials_flow))
-    (if_else IsPlain _ _ (h (named authorization_code_flow)) (h (named device_authorization_flow))))))
+flow_plain None f h = if_map IsPlain IsPlain flow_doc (λ x p. p) (first_that_fits flow_keys f) (first_plain flow_keys f h)
 
 -- the flows of an object
 flows_plain : (ps : Parts) → PartsPlain ps → IfSome (read_flows ps) EntriesPlain
 unfolding entries_have_fraction
 flows_plain [] h = refl
-flows_plain (p ∷ ps) h = both_entries_plain p.0 (read_flow (chosen p.0 flow_keys) p.1.1) (read_flows ps) (flow_plain (chosen p.0 flow_keys) p.1.1 h.0) (flows_plain ps h.1)
+flows_plain (p ∷ ps) h =
+    let f = part_reads (named_part p) in
+    let n = chosen (part_name p) flow_keys in
+    both_entries_plain (part_name p) (read_flow n f) (read_flows ps) (flow_plain n f h.0) (flows_plain ps h.1)
 
 -- ---- arrays and objects
 

@@ -5,14 +5,14 @@ use Rattle.std.specs.List.{list_any}
 use Rattle.std.specs.Cmp.Lexicographic.{slice_cmp}
 use Rattle.serde_json.specs.Data.{Num, unsigned, negative, float, Data, null, boolean, number, string, array, object, Items, no_items, item, Members, no_members, member}
 use Rattle.serde_json.specs.Find.{as_integer, as_u64}
-use Rattle.utoipa_base.specs.Kinds.{ObjectType, reference_object, one_of_schema, all_of_schema, any_of_schema, array_schema, object_schema, implicit_flow, password_flow, client_credentials_flow, authorization_code_flow, device_authorization_flow, type_word, known_format, Kind, text, flag, whole, numeral, any, word_of, version, list_of, map_of, entries_of, ref_or, named, schema, schema_type, schema_format, array_items, additional_properties, security_scheme, api_key, flows, Mark, required, optional, or_null, defaulted, Row}
+use Rattle.utoipa_base.specs.Kinds.{ObjectType, reference_object, one_of_schema, all_of_schema, any_of_schema, array_schema, object_schema, type_word, known_format, Kind, text, flag, whole, numeral, any, word_of, version, list_of, map_of, entries_of, ref_or, named, schema, schema_type, schema_format, array_items, additional_properties, security_scheme, api_key, flows, Mark, required, optional, or_null, defaulted, Row}
 use Rattle.utoipa_base.specs.Words.{is_word}
 use Rattle.utoipa_base.specs.Version.{read_version}
 use Rattle.utoipa_base.specs.Choices.{chosen, scheme_types, api_key_places, flow_keys, schema_keywords}
 use Rattle.utoipa_base.specs.Docs.{Doc, whole_doc, word_doc, types_doc, none_doc, some_doc, ref_doc, own_doc, schema_doc, tagged_doc, flow_doc, list_doc, map_doc, entries_doc, table_doc, Docs, doc, Entries, entry}
 use Rattle.utoipa_base.specs.Tables.{table, has_extensions}
 use Rattle.utoipa_base.specs.Extensions.{is_extension, extension_members, extensions_of, some_if_any}
-use Rattle.utoipa_base.specs.Reading.{both, both_entries, only_if, Parts, part, entry_parts, is_null, empty_doc, fits, read_rows, read_table, read_items, read_entries, is_named, read_schema, read_ref_or, text_at, read_alternative, read_tagged, read_api_key, read_scheme, read_flow, read_flows, read_null, read_boolean, numeral_doc, read_number, read_word, read_string, read_array, read_object, reader, item_readers, parts, read}
+use Rattle.utoipa_base.specs.Reading.{both, both_entries, only_if, Part, part_is_null, part_reads, Parts, part_name, named_part, part, entry_parts, is_null, empty_doc, fits, read_rows, read_table, read_items, read_entries, is_named, read_schema, read_ref_or, text_at, read_alternative, read_tagged, read_api_key, read_scheme, first_that_fits, read_flow, read_flows, read_null, read_boolean, numeral_doc, read_number, read_word, read_string, read_array, read_object, reader, item_readers, parts, read}
 use Rattle.utoipa_base.specs.Writing.{write}
 use Rattle.utoipa_base.specs.NormalForm.{normal_form, normal_docs, normal_entries, normal_some, normal_extensions}
 use Rattle.utoipa_base.proofs.Results.{if_is, if_map, if_made, if_then, if_else, if_only, by_order}
@@ -45,10 +45,14 @@ abbrev ItemsReadNormal : List (Kind → Option Doc) → Type 0
 ItemsReadNormal [] = Unit {0}
 ItemsReadNormal (r ∷ rs) = ((k : Kind) → IfSome (r k) IsNormal) × ItemsReadNormal rs
 
+-- what a member's reader reads stays
+abbrev PartReadsNormal : Part → Type 0
+PartReadsNormal m = ReadsNormal (part_is_null m) (part_reads m)
+
 -- what the members' readers read stays
 abbrev PartsReadNormal : Parts → Type 0
 PartsReadNormal [] = Unit {0}
-PartsReadNormal (p ∷ ps) = ReadsNormal p.1.0 p.1.1 × PartsReadNormal ps
+PartsReadNormal (p ∷ ps) = PartReadsNormal (named_part p) × PartsReadNormal ps
 
 -- what stays is in normal form
 only_normal : (b : Bool) (o : Option Doc) → IfSome o (Stays b) → IfSome o IsNormal
@@ -141,25 +145,27 @@ items_normal k (r ∷ rs) h = both_normal (r k) (read_items k rs) (h.0 k) (items
 entries_normal : (k : Kind) (ps : Parts) → PartsReadNormal ps → IfSome (read_entries k ps) EntriesNormal
 unfolding normal_entries
 entries_normal k [] h = refl
-entries_normal k (p ∷ ps) h = both_entries_normal p.0 (p.1.1 k) (read_entries k ps) (only_normal p.1.0 (p.1.1 k) (h.0 k)) (entries_normal k ps h.1)
+entries_normal k (p ∷ ps) h =
+    let m = named_part p in
+    both_entries_normal (part_name p) (part_reads m k) (read_entries k ps) (only_normal (part_is_null m) (part_reads m k) (h.0 k)) (entries_normal k ps h.1)
 
 -- the members that are no extensions, with one more
-kept_parts : (b : Bool) (p : List ℕ × (Bool × (Kind → Option Doc))) (ps : Parts) → ReadsNormal p.1.0 p.1.1 → PartsReadNormal ps → PartsReadNormal (cond b ps (p ∷ ps))
+kept_parts : (b : Bool) (p : List ℕ × Part) (ps : Parts) → PartReadsNormal (named_part p) → PartsReadNormal ps → PartsReadNormal (cond b ps (p ∷ ps))
 kept_parts true p ps g h = h
 kept_parts false p ps g h = (g, h)
 
 -- the members that are no extensions
 entry_parts_normal : (ps : Parts) → PartsReadNormal ps → PartsReadNormal (entry_parts ps)
 entry_parts_normal [] h = tt
-entry_parts_normal (p ∷ ps) h = kept_parts (is_extension p.0) p (entry_parts ps) h.0 (entry_parts_normal ps h.1)
+entry_parts_normal (p ∷ ps) h = kept_parts (is_extension (part_name p)) p (entry_parts ps) h.0 (entry_parts_normal ps h.1)
 
 -- ---- rows
 
 -- the member at a name
-part_normal : (name : List ℕ) (ps : Parts) → PartsReadNormal ps → IfSome (part name ps) (λ m. ReadsNormal m.0 m.1)
+part_normal : (name : List ℕ) (ps : Parts) → PartsReadNormal ps → IfSome (part name ps) PartReadsNormal
 part_normal name [] h = tt
 part_normal name (p ∷ ps) h =
-    by_order (λ o. IfSome o (λ m. ReadsNormal m.0 m.1)) (slice_cmp nat_cmp name p.0) (part name ps) (Some p.1) (part name ps) (part_normal name ps h.1) h.0 (part_normal name ps h.1)
+    by_order (λ o. IfSome o PartReadsNormal) (slice_cmp nat_cmp name (part_name p)) (part name ps) (Some (named_part p)) (part name ps) (part_normal name ps h.1) h.0 (part_normal name ps h.1)
 
 -- what an absent member is
 empty_normal : (k : Kind) → IsNormal (empty_doc k)
@@ -178,16 +184,16 @@ optional_normal true o h = refl
 optional_normal false o h = if_map (Stays false) IsNormal some_doc (λ d p. ap (λ b. normal_some b (normal_form d)) (p.1 refl) ∙ ap some_doc p.0) o h
 
 -- the field of a row
-field_normal : (m : Mark) (k : Kind) (o : Option (Bool × (Kind → Option Doc))) → IfSome o (λ p. ReadsNormal p.0 p.1) → IfSome (fits m k o) IsNormal
+field_normal : (m : Mark) (k : Kind) (o : Option Part) → IfSome o PartReadsNormal → IfSome (fits m k o) IsNormal
 unfolding normal_form
 field_normal required k None h = tt
-field_normal required k (Some p) h = only_normal p.0 (p.1 k) (h k)
+field_normal required k (Some p) h = only_normal (part_is_null p) (part_reads p k) (h k)
 field_normal optional k None h = refl
-field_normal optional k (Some p) h = optional_normal p.0 (p.1 k) (h k)
+field_normal optional k (Some p) h = optional_normal (part_is_null p) (part_reads p k) (h k)
 field_normal or_null k None h = refl
-field_normal or_null k (Some p) h = optional_normal p.0 (p.1 k) (h k)
+field_normal or_null k (Some p) h = optional_normal (part_is_null p) (part_reads p k) (h k)
 field_normal defaulted k None h = empty_normal k
-field_normal defaulted k (Some p) h = only_normal p.0 (p.1 k) (h k)
+field_normal defaulted k (Some p) h = only_normal (part_is_null p) (part_reads p k) (h k)
 
 -- the fields of a table's rows
 rows_normal : (rs : List Row) (ps : Parts) → PartsReadNormal ps → IfSome (read_rows rs ps) AreNormal
@@ -257,22 +263,25 @@ scheme_stays : (ms : Members) (ps : Parts) → PartsReadNormal ps → ReadsNorma
 scheme_stays ms ps h api_key = api_key_stays ms ps h
 scheme_stays ms ps h k = alternative_stays ms ps h k
 
+-- the first type that fits
+first_stays : (b : Bool) (cs : List (List ℕ × ObjectType)) (f : Kind → Option Doc) → ReadsNormal b f → IfSome (first_that_fits cs f) (Stays b)
+first_stays b [] f h = tt
+first_stays b (c ∷ cs) f h = if_else (Stays b) (f (named c.1)) (first_that_fits cs f) (h (named c.1)) (first_stays b cs f h)
+
 -- a flow
 flow_normal : (b : Bool) (o : Option ObjectType) (f : Kind → Option Doc) → ReadsNormal b f → IfSome (read_flow o f) IsNormal
 unfolding normal_form
 flow_normal b (Some n) f h = if_map (Stays b) IsNormal flow_doc (λ d p. ap flow_doc p.0) (f (named n)) (h (named n))
-flow_normal b None f h =
-    if_map (Stays b) IsNormal flow_doc (λ d p. ap flow_doc p.0) _
-    (if_else (Stays b) _ _ (h (named implicit_flow))
-    (if_else (Stays b) _ _ (h (named password_flow))
-    (if_else (Stays b) _ _ (h (named client_credentials_flow))
-    (if_else (Stays b) _ _ (h (named authorization_code_flow)) (h (named device_authorization_flow))))))
+flow_normal b None f h = if_map (Stays b) IsNormal flow_doc (λ d p. ap flow_doc p.0) (first_that_fits flow_keys f) (first_stays b flow_keys f h)
 
 -- the flows of an object
 flows_normal : (ps : Parts) → PartsReadNormal ps → IfSome (read_flows ps) EntriesNormal
 unfolding normal_entries
 flows_normal [] h = refl
-flows_normal (p ∷ ps) h = both_entries_normal p.0 (read_flow (chosen p.0 flow_keys) p.1.1) (read_flows ps) (flow_normal p.1.0 (chosen p.0 flow_keys) p.1.1 h.0) (flows_normal ps h.1)
+flows_normal (p ∷ ps) h =
+    let m = named_part p in
+    let n = chosen (part_name p) flow_keys in
+    both_entries_normal (part_name p) (read_flow n (part_reads m)) (read_flows ps) (flow_normal (part_is_null m) n (part_reads m) h.0) (flows_normal ps h.1)
 
 -- ---- arrays and objects
 

@@ -1,5 +1,5 @@
 -- The members of a written object: the rows' and the extensions, each where it was put.
-use Rattle.std.proofs.Common.{◌≡◌, ℕ, List, [], ◌∷◌, Bool, true, false, ◌&&◌, ◌||◌, Option, Some, None, option_map, refl, sym, ap, ◌∙◌, true≢false, nat_cmp, cond, Ordering, Less, Equal, Greater}
+use Rattle.std.proofs.Common.{◌≡◌, ℕ, List, [], ◌∷◌, Bool, true, false, ◌&&◌, ◌||◌, Option, Some, None, refl, sym, ap, ◌∙◌, true≢false, nat_cmp, cond, Ordering, Less, Equal, Greater}
 use Rattle.std.proofs.lemmas.Map.Text.{is_eq-slice_cmp}
 use Rattle.std.proofs.lemmas.Slice.Eq.{bytes_eq-Decides}
 use Rattle.std.specs.Cmp.Lexicographic.{slice_cmp}
@@ -11,7 +11,7 @@ use Rattle.serde_json.proofs.Views.{get_member-put, get_member-put_other}
 use Rattle.utoipa_base.specs.Kinds.{Kind, Mark, required, optional, or_null, defaulted, Row}
 use Rattle.utoipa_base.specs.Docs.{Doc, Docs, no_docs, doc, Entries, no_entries, entry}
 use Rattle.utoipa_base.specs.Extensions.{is_extension, extension_members, all_extensions, some_if_any, extensions_of, members_or_none}
-use Rattle.utoipa_base.specs.Reading.{reader, parts, part, entry_parts, Parts, is_null, fits, read_rows, both}
+use Rattle.utoipa_base.specs.Reading.{parts, part, part_of, entry_parts, Parts, fits, read_rows, both}
 use Rattle.utoipa_base.specs.Writing.{write, write_rows, write_entries, left_out, put_row, put_unless, merge_member, merge_members}
 use Rattle.utoipa_base.specs.Fields.{field_of}
 use Rattle.utoipa_base.specs.NormalForm.{normal_extensions}
@@ -24,20 +24,9 @@ use Rattle.utoipa_base.proofs.TableNames.{is_row, is_wanted, is_required, are_ap
 
 -- ---- the parts of members
 
--- a part fits as the member that it is made of
-fits_by : (m : Mark) (k : Kind) (o : Option Data) → fits m k (option_map (λ d. (is_null d, reader d)) o) ≡ field_of m k o
-fits_by required k None = refl
-fits_by required k (Some d) = refl
-fits_by optional k None = refl
-fits_by optional k (Some d) = refl
-fits_by or_null k None = refl
-fits_by or_null k (Some d) = refl
-fits_by defaulted k None = refl
-fits_by defaulted k (Some d) = refl
-
 -- a row's field is decided by the member at the row's name
 pub fits-part : (r : Row) (ms : Members) → fits r.mark r.kind (part r.name (parts ms)) ≡ field_of r.mark r.kind (get_member r.name ms)
-fits-part r ms = ap (fits r.mark r.kind) (part-parts r.name ms) ∙ fits_by r.mark r.kind (get_member r.name ms)
+fits-part r ms = ap (fits r.mark r.kind) (part-parts r.name ms)
 
 -- a field and the others are the fields
 pub both_fit : (a : Option Doc) (b : Option Docs) (d : Doc) (ds : Docs) → a ≡ Some d → b ≡ Some ds → both a b ≡ Some (doc d ds)
@@ -219,18 +208,18 @@ parts-no_entries (member k d ms) x = rw (and_first (is_extension k) (all_extensi
 -- at one extension, a member that is none is the next entry
 merged_entries_at : (o : Ordering) (k : List ℕ) (d : Data) (l : List ℕ) (e : Data) (here there later : Members) (ps : Parts) → slice_cmp nat_cmp k l ≡ o → is_extension k ≡ false
     → is_extension l ≡ true
-    → entry_parts (parts here) ≡ ps → entry_parts (parts later) ≡ (k, (is_null d, reader d)) ∷ ps
-    → entry_parts (parts (match_ordering o (member k d here) (member k d there) (member l e later))) ≡ (k, (is_null d, reader d)) ∷ ps
+    → entry_parts (parts here) ≡ ps → entry_parts (parts later) ≡ (k, part_of d) ∷ ps
+    → entry_parts (parts (match_ordering o (member k d here) (member k d there) (member l e later))) ≡ (k, part_of d) ∷ ps
 unfolding parts
-merged_entries_at Less k d l e here there later ps is n x h t = rw n (ap (λ qs. (k, (is_null d, reader d)) ∷ qs) h)
+merged_entries_at Less k d l e here there later ps is n x h t = rw n (ap (λ qs. (k, part_of d) ∷ qs) h)
 merged_entries_at Equal k d l e here there later ps is n x h t = absurd (never_equal k l is n x)
 merged_entries_at Greater k d l e here there later ps is n x h t = rw x t
 
 -- a member that is no extension is the first entry of what it is merged with
 merged_entries : (k : List ℕ) (d : Data) (rest : Members → Members) (ps : Parts) → is_extension k ≡ false → ((ms : Members) → all_extensions ms ≡ true → entry_parts (parts (rest ms)) ≡ ps)
-    → (ms : Members) → all_extensions ms ≡ true → entry_parts (parts (merge_member k d rest ms)) ≡ (k, (is_null d, reader d)) ∷ ps
+    → (ms : Members) → all_extensions ms ≡ true → entry_parts (parts (merge_member k d rest ms)) ≡ (k, part_of d) ∷ ps
 unfolding parts
-merged_entries k d rest ps n h no_members x = rw n (ap (λ qs. (k, (is_null d, reader d)) ∷ qs) (h no_members refl))
+merged_entries k d rest ps n h no_members x = rw n (ap (λ qs. (k, part_of d) ∷ qs) (h no_members refl))
 merged_entries k d rest ps n h (member l e ms) x =
     merged_entries_at _ k d l e (rest (member l e ms)) (rest ms) (merge_member k d rest ms) ps refl n (and_first _ _ x) (h (member l e ms) x) (merged_entries k d rest ps n h ms (and_second _ _ x))
 

@@ -1,5 +1,5 @@
 -- The choices that a member's text or a key decides.
-use Rattle.std.specs.Prelude.{ℕ, List, [], ◌∷◌, Bool, true, false, if◌then◌else◌, Option, None, Some, codes}
+use Rattle.std.specs.Prelude.{◌≡◌, ℕ, List, [], ◌∷◌, Bool, true, false, if◌then◌else◌, Option, None, Some, codes}
 use Rattle.std.specs.Str.{bytes_eq}
 use Rattle.utoipa_base.specs.Kinds.{ObjectType, one_of_schema, all_of_schema, any_of_schema, array_schema, object_schema, api_key_scheme, http_scheme, open_id_connect_scheme, mutual_tls_scheme, oauth2_scheme, implicit_flow, password_flow, client_credentials_flow, authorization_code_flow, device_authorization_flow, Kind, named, api_key}
 
@@ -30,14 +30,9 @@ flow_keys =
     ∷ (codes "authorizationCode", authorization_code_flow)
     ∷ (codes "deviceAuthorization", device_authorization_flow) ∷ []
 
--- whether an object type is an OAuth flow
-abbrev pub is_flow : ObjectType → Bool
-is_flow implicit_flow = true
-is_flow password_flow = true
-is_flow client_credentials_flow = true
-is_flow authorization_code_flow = true
-is_flow device_authorization_flow = true
-is_flow n = false
+-- an object type is an OAuth flow: some key chooses it
+abbrev pub IsFlow : ObjectType → Type 0
+IsFlow n = (key : List ℕ) × (chosen key flow_keys ≡ Some n)
 
 -- whether an object type is an alternative of a schema
 abbrev pub is_schema_type : ObjectType → Bool

@@ -1,22 +1,15 @@
 -- A field of an object by the row of its member, as it is read and as it is written.
-use Rattle.std.specs.Prelude.{ℕ, List, [], ◌∷◌, Option, None, Some, option_map, if◌then◌else◌}
+use Rattle.std.specs.Prelude.{ℕ, List, [], ◌∷◌, Option, None, Some, option_map}
 use Rattle.serde_json.specs.Data.{Data, Members}
 use Rattle.serde_json.specs.Find.{get}
-use Rattle.utoipa_base.specs.Kinds.{Kind, Mark, required, optional, or_null, defaulted, Row}
+use Rattle.utoipa_base.specs.Kinds.{Kind, Mark, Row}
 use Rattle.utoipa_base.specs.Docs.{Doc, none_doc, some_doc, Docs, no_docs}
-use Rattle.utoipa_base.specs.Reading.{read, is_null, empty_doc, both}
+use Rattle.utoipa_base.specs.Reading.{read, part_of, fits, both}
 use Rattle.utoipa_base.specs.Writing.{write, put_row}
 
--- the field of a row, where the object has this member at the row's name
+-- the field of a row, by the tree that stands at its name
 abbrev pub field_of : Mark → Kind → Option Data → Option Doc
-field_of required k None = None
-field_of required k (Some d) = read k d
-field_of optional k None = Some none_doc
-field_of optional k (Some d) = if is_null d then Some none_doc else option_map some_doc (read k d)
-field_of or_null k None = Some none_doc
-field_of or_null k (Some d) = if is_null d then Some none_doc else option_map some_doc (read k d)
-field_of defaulted k None = Some (empty_doc k)
-field_of defaulted k (Some d) = read k d
+field_of m k o = fits m k (option_map part_of o)
 
 -- the field of a row in an object
 unfoldable pub field : Row → Data → Option Doc

@@ -1,4 +1,5 @@
--- The normal form of a document: what it is after it was written and read.
+-- The normal form of a document: of a well-formed one, what it is after it was written and read. Others have a normal form too, but
+-- their trees may read otherwise, or not at all.
 use Rattle.std.specs.Prelude.{pos, Bool, true, false, Option, None, Some}
 use Rattle.serde_json.specs.Data.{Members, no_members, member}
 use Rattle.utoipa_base.specs.Kinds.{known_format}

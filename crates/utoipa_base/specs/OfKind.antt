@@ -5,9 +5,10 @@ use Rattle.std.specs.BTreeMap.{BTreeMap}
 use Rattle.std.specs.Prelude.{Vec}
 use Rattle.serde_json.specs.Data.{Members}
 use Rattle.serde_json.specs.declared.value.Value.{Value}
-use Rattle.utoipa_base.specs.Kinds.{Kind, text, flag, any, whole, numeral, list_of, map_of, ref_or, named, reference_object}
-use Rattle.utoipa_base.specs.Docs.{Doc, flag_doc, whole_doc, docs_of, entries_of_list}
-use Rattle.utoipa_base.specs.Shape.{Place, value_of, option_of, IsOf, ItemsOf, EntriesOf, RowsOf, Extends}
+use Rattle.utoipa_base.specs.Kinds.{ObjectType, reference_object, Kind, text, flag, any, whole, numeral, list_of, map_of, ref_or, named, Row}
+use Rattle.utoipa_base.specs.Docs.{Doc, flag_doc, whole_doc, table_doc, Docs, no_docs, doc, docs_of, entries_of_list}
+use Rattle.utoipa_base.specs.Tables.{table, has_extensions}
+use Rattle.utoipa_base.specs.Shape.{Place, value_of, option_of, field_place, IsOf, ItemsOf, EntriesOf, RowsOf, Extends}
 use Rattle.utoipa_base.specs.Views as views
 use Rattle.utoipa_base.specs.Refs.{reference_doc, ref_or_doc}
 use Rattle.utoipa_base.specs.Flags.{deprecated_doc, required_doc}
@@ -78,31 +79,37 @@ pub map_of_kind : {X : Type 0} (f : X → Doc) (k : Kind) → ((x : X) → IsOf 
 unfolding IsOf
 map_of_kind f k each m = (value_of k, refl, entries_of_kind f (value_of k) each m.entries)
 
+-- ---- an object's fields, row by row
+
+-- the documents are the fields of the rows, one after the other, which is what `RowsOf` says. Here the rows and documents are inferred,
+-- so that a proof names the facts alone.
+pub data FieldsOf : Docs → List Row → Type 0 where
+  no_rows : FieldsOf no_docs []
+  next_row : {r : Row} {rs : List Row} {d : Doc} {ds : Docs} → IsOf d (field_place r.mark r.kind) → FieldsOf ds rs → FieldsOf (doc d ds) (r ∷ rs)
+
+-- the same by `RowsOf`
+pub rows_of_kind : {ds : Docs} {rs : List Row} → FieldsOf ds rs → RowsOf ds rs
+unfolding RowsOf
+rows_of_kind no_rows = tt
+rows_of_kind (next_row first others) = (first, rows_of_kind others)
+
+-- an object, by the fields of its table's rows, and extensions if its type keeps any
+pub table_of_kind : (n : ObjectType) {ds : Docs} (e : Option Members) → FieldsOf ds (table n) → Extends (has_extensions n) e → IsOf (table_doc n ds e) (value_of (named n))
+unfolding IsOf
+table_of_kind n e fields extends = (refl, rows_of_kind fields, extends)
+
+-- a reference is an object of its type
 pub reference_of_kind : (r : Ref) → IsOf (reference_doc r) (value_of (named reference_object))
-unfolding IsOf RowsOf
-reference_of_kind r = (
-  refl,
-  (
-    text_of_kind r.ref_location,
-    (
-      text_of_kind r.description,
-      (
-        text_of_kind r.summary,
-        (
-          option_of_kind flag_doc flag flag_of_kind r.read_only,
-          (
-            option_of_kind flag_doc flag flag_of_kind r.write_only,
-            (
-              option_of_kind views.tree_of any tree_of_kind r.default,
-              (option_of_kind views.text_of text text_of_kind r.title, tt),
-            ),
-          ),
-        ),
-      ),
-    ),
-  ),
-  tt,
-)
+reference_of_kind r =
+    table_of_kind _ _
+    (next_row (text_of_kind r.ref_location)
+    (next_row (text_of_kind r.description)
+    (next_row (text_of_kind r.summary)
+    (next_row (option_of_kind flag_doc flag flag_of_kind r.read_only)
+    (next_row (option_of_kind flag_doc flag flag_of_kind r.write_only)
+    (next_row (option_of_kind views.tree_of any tree_of_kind r.default)
+    (next_row (option_of_kind views.text_of text text_of_kind r.title) no_rows)))))))
+    tt
 
 -- a reference, or a value in its place
 pub ref_or_of_kind : {X : Type 0} (f : X → Doc) (k : Kind) → ((x : X) → IsOf (f x) (value_of k)) → (r : RefOr X) → IsOf (ref_or_doc k f r) (value_of (ref_or k))

@@ -5,7 +5,7 @@ use Rattle.std.specs.Ordering.{nat_cmp, match_ordering}
 use Rattle.std.specs.Cmp.Lexicographic.{slice_cmp}
 use Rattle.serde_json.specs.Data.{Num, Data, null, boolean, number, string, array, object, Items, no_items, item, Members, no_members, member}
 use Rattle.serde_json.specs.Find.{as_u64, as_integer, as_str, get_member}
-use Rattle.utoipa_base.specs.Kinds.{ObjectType, reference_object, one_of_schema, all_of_schema, any_of_schema, array_schema, object_schema, implicit_flow, password_flow, client_credentials_flow, authorization_code_flow, device_authorization_flow, type_word, known_format, Kind, text, flag, whole, numeral, any, word_of, version, list_of, map_of, entries_of, ref_or, named, schema, schema_type, schema_format, array_items, additional_properties, security_scheme, api_key, flows, Mark, required, optional, or_null, defaulted, Row}
+use Rattle.utoipa_base.specs.Kinds.{ObjectType, reference_object, one_of_schema, all_of_schema, any_of_schema, array_schema, object_schema, type_word, known_format, Kind, text, flag, whole, numeral, any, word_of, version, list_of, map_of, entries_of, ref_or, named, schema, schema_type, schema_format, array_items, additional_properties, security_scheme, api_key, flows, Mark, required, optional, or_null, defaulted, Row}
 use Rattle.utoipa_base.specs.Words.{is_word}
 use Rattle.utoipa_base.specs.Version.{read_version}
 use Rattle.utoipa_base.specs.Choices.{chosen, scheme_types, api_key_places, flow_keys, schema_keywords}
@@ -36,17 +36,41 @@ only_if false o = None
 
 -- ---- the members of an object, each with whether it is null and what it reads as
 
-abbrev pub Parts : Type 0
-Parts = List (List ℕ × (Bool × (Kind → Option Doc)))
+-- what reading an object needs of a member's tree: whether it is null, and what it reads as. A part holds the tree's reader in place of
+-- the tree, since `reader` below is structural recursion: it may call itself on the trees in a tree, and may not hand them on to be read
+-- elsewhere.
+abbrev pub Part : Type 0
+Part = Bool × (Kind → Option Doc)
 
-abbrev pub part : List ℕ → Parts → Option (Bool × (Kind → Option Doc))
+-- whether the tree is null
+abbrev pub part_is_null : Part → Bool
+part_is_null m = m.0
+
+-- what the tree reads as
+abbrev pub part_reads : Part → (Kind → Option Doc)
+part_reads m = m.1
+
+-- the parts of an object, each under its member's name
+abbrev pub Parts : Type 0
+Parts = List (List ℕ × Part)
+
+-- the name that a part stands under
+abbrev pub part_name : List ℕ × Part → List ℕ
+part_name p = p.0
+
+-- the part that stands under a name
+abbrev pub named_part : List ℕ × Part → Part
+named_part p = p.1
+
+-- the part at a name
+abbrev pub part : List ℕ → Parts → Option Part
 part k [] = None
-part k (p ∷ ps) = match_ordering (slice_cmp nat_cmp k p.0) (part k ps) (Some p.1) (part k ps)
+part k (p ∷ ps) = match_ordering (slice_cmp nat_cmp k (part_name p)) (part k ps) (Some (named_part p)) (part k ps)
 
 -- the parts that are no extensions
 abbrev pub entry_parts : Parts → Parts
 entry_parts [] = []
-entry_parts (p ∷ ps) = if is_extension p.0 then entry_parts ps else p ∷ entry_parts ps
+entry_parts (p ∷ ps) = if is_extension (part_name p) then entry_parts ps else p ∷ entry_parts ps
 
 -- ---- rows
 
@@ -67,16 +91,16 @@ empty_doc (map_of k) = map_doc no_entries
 empty_doc schema_type = any_value_doc
 empty_doc k = none_doc
 
--- the field of a row, by the member that stands at its name
-abbrev pub fits : Mark → Kind → Option (Bool × (Kind → Option Doc)) → Option Doc
+-- the field of a row, by the part at its name
+abbrev pub fits : Mark → Kind → Option Part → Option Doc
 fits required k None = None
-fits required k (Some m) = m.1 k
+fits required k (Some m) = part_reads m k
 fits optional k None = Some none_doc
-fits optional k (Some m) = if m.0 then Some none_doc else option_map some_doc (m.1 k)
+fits optional k (Some m) = if part_is_null m then Some none_doc else option_map some_doc (part_reads m k)
 fits or_null k None = Some none_doc
-fits or_null k (Some m) = if m.0 then Some none_doc else option_map some_doc (m.1 k)
+fits or_null k (Some m) = if part_is_null m then Some none_doc else option_map some_doc (part_reads m k)
 fits defaulted k None = Some (empty_doc k)
-fits defaulted k (Some m) = m.1 k
+fits defaulted k (Some m) = part_reads m k
 
 abbrev pub read_rows : List Row → Parts → Option Docs
 read_rows [] ps = Some no_docs
@@ -93,7 +117,7 @@ read_items k (r ∷ rs) = both (r k) (read_items k rs)
 
 abbrev pub read_entries : Kind → Parts → Option Entries
 read_entries k [] = Some no_entries
-read_entries k (p ∷ ps) = both_entries p.0 (p.1.1 k) (read_entries k ps)
+read_entries k (p ∷ ps) = both_entries (part_name p) (part_reads (named_part p) k) (read_entries k ps)
 
 -- ---- choices
 
@@ -137,19 +161,19 @@ read_scheme ms ps k = read_alternative ms ps k
 abbrev pub read_security_scheme : Members → Parts → Option Doc
 read_security_scheme ms ps = read_tagged (codes "type") scheme_types (read_scheme ms ps) ms
 
--- a flow under its key, or under another key the first kind that fits
+-- the first of the types beside some keys that fits
+abbrev pub first_that_fits : List (List ℕ × ObjectType) → (Kind → Option Doc) → Option Doc
+first_that_fits [] r = None
+first_that_fits (c ∷ cs) r = or_else (r (named c.1)) (first_that_fits cs r)
+
+-- a flow of the type that its key has chosen, or under another key of the first type that fits
 abbrev pub read_flow : Option ObjectType → (Kind → Option Doc) → Option Doc
 read_flow (Some n) r = option_map flow_doc (r (named n))
-read_flow None r =
-    option_map flow_doc
-    (or_else (r (named implicit_flow))
-    (or_else (r (named password_flow))
-    (or_else (r (named client_credentials_flow))
-    (or_else (r (named authorization_code_flow)) (r (named device_authorization_flow))))))
+read_flow None r = option_map flow_doc (first_that_fits flow_keys r)
 
 abbrev pub read_flows : Parts → Option Entries
 read_flows [] = Some no_entries
-read_flows (p ∷ ps) = both_entries p.0 (read_flow (chosen p.0 flow_keys) p.1.1) (read_flows ps)
+read_flows (p ∷ ps) = both_entries (part_name p) (read_flow (chosen (part_name p) flow_keys) (part_reads (named_part p))) (read_flows ps)
 
 -- ---- trees of each sort
 
@@ -232,9 +256,13 @@ unfoldable mutual
   item_readers no_items = []
   item_readers (item d ds) = reader d ∷ item_readers ds
 
-  pub parts : Members → List (List ℕ × (Bool × (Kind → Option Doc)))
+  pub parts : Members → Parts
   parts no_members = []
   parts (member k d ms) = (k, (is_null d, reader d)) ∷ parts ms
+
+-- the part of a tree
+abbrev pub part_of : Data → Part
+part_of d = (is_null d, reader d)
 
 -- the document that the tree is, as the kind says
 abbrev pub read : Kind → Data → Option Doc

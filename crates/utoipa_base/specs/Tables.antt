@@ -1,4 +1,6 @@
 -- The member tables of the model: a line for each member that the model keeps, by OpenAPI 3.1 with members that 3.2 adds.
+-- A comment `not kept` names members of the standard that are dropped on reading, `stricter` what the standard allows and the table does
+-- not fit. By its mark an `optional` member that is null is dropped too, as a `default` or an `example` of null.
 use Rattle.std.specs.Prelude.{ℕ, List, [], ◌∷◌, Bool, true, false, codes}
 use Rattle.utoipa_base.specs.Kinds.{ObjectType, open_api_object, info_object, contact_object, license_object, server_object, server_variable_object, components_object, path_item_object, operation_object, external_docs_object, parameter_object, request_body_object, media_type_object, encoding_object, response_object, example_object, link_object, header_object, tag_object, reference_object, discriminator_object, xml_object, one_of_schema, all_of_schema, any_of_schema, array_schema, object_schema, api_key_scheme, http_scheme, open_id_connect_scheme, mutual_tls_scheme, oauth2_scheme, implicit_flow, password_flow, client_credentials_flow, authorization_code_flow, device_authorization_flow, scopes_object, Kind, text, flag, whole, numeral, any, word_of, parameter_in, parameter_style, http_auth_scheme, version, list_of, map_of, entries_of, ref_or, named, schema, schema_type, schema_format, array_items, additional_properties, security_scheme, flows, Mark, required, optional, or_null, defaulted, Row}
 
@@ -7,7 +9,7 @@ row name mark kind = record { name = name; mark = mark; kind = kind }
 
 -- ---- objects whose members are named by their writer
 
--- Paths Object: section 4.8.8. A member whose name begins `x-` is an extension.
+-- Paths Object: section 4.8.8. A member whose name begins `x-` is an extension, also in the map `webhooks`, which has this kind.
 abbrev pub paths : Kind
 paths = entries_of (named path_item_object)
 
@@ -16,17 +18,29 @@ abbrev pub responses : Kind
 responses = entries_of (ref_or (named response_object))
 
 -- Callback Object: section 4.8.18. Every member is an entry.
+-- not kept: extensions; stricter: a member whose name begins `x-` is a path item or a reference like any other
 abbrev pub callback : Kind
 callback = map_of (ref_or (named path_item_object))
 
--- Security Requirement Object: section 4.8.30. Every member is an entry.
+-- Security Requirement Object: section 4.8.30. Every member is an entry, as in the standard, which has no extensions here.
 abbrev pub security_requirement : Kind
 security_requirement = map_of (list_of text)
 
 -- ---- objects whose members have fixed names
 
+-- Specification Extensions: section 4.9. Whether the members whose names begin `x-` are kept.
+abbrev pub has_extensions : ObjectType → Bool
+-- in the standard too, no extensions stand beside `$ref`
+has_extensions reference_object = false
+-- not kept, though the standard has them
+has_extensions xml_object = false
+-- one member of a flow, whose extensions are those of the flow
+has_extensions scopes_object = false
+has_extensions n = true
+
 abbrev pub table : ObjectType → List Row
 -- OpenAPI Object: OpenAPI 3.1, section 4.8.1; `$self` from 3.2; `$schema` is this model's own
+-- stricter: `paths` is asked for
 table open_api_object =
     row (codes "openapi") required version
     ∷ row (codes "info") required (named info_object)
@@ -41,6 +55,7 @@ table open_api_object =
     ∷ row (codes "$schema") defaulted text
     ∷ row (codes "$self") optional text ∷ []
 -- Info Object: section 4.8.2
+-- not kept: `summary`
 table info_object =
     row (codes "title") required text
     ∷ row (codes "description") optional text
@@ -100,6 +115,7 @@ table path_item_object =
     ∷ row (codes "query") optional (named operation_object)
     ∷ row (codes "additionalOperations") defaulted (map_of (named operation_object)) ∷ []
 -- Operation Object: section 4.8.10
+-- stricter: `responses` is asked for
 table operation_object =
     row (codes "tags") optional (list_of text)
     ∷ row (codes "summary") optional text
@@ -118,6 +134,7 @@ table external_docs_object =
     row (codes "url") required text
     ∷ row (codes "description") or_null text ∷ []
 -- Parameter Object: section 4.8.12
+-- not kept: `examples`, `allowEmptyValue`; stricter: `required` is asked for
 table parameter_object =
     row (codes "name") required text
     ∷ row (codes "in") required (word_of parameter_in)
@@ -163,6 +180,7 @@ table response_object =
     ∷ row (codes "content") defaulted (map_of (ref_or (named media_type_object)))
     ∷ row (codes "links") defaulted (map_of (ref_or (named link_object))) ∷ []
 -- Example Object: section 4.8.19
+-- not kept: `dataValue` and `serializedValue` of 3.2
 table example_object =
     row (codes "summary") defaulted text
     ∷ row (codes "description") defaulted text
@@ -177,6 +195,7 @@ table link_object =
     ∷ row (codes "description") defaulted text
     ∷ row (codes "server") optional (named server_object) ∷ []
 -- Header Object: section 4.8.21
+-- not kept: `required`
 table header_object =
     row (codes "schema") optional (ref_or schema)
     ∷ row (codes "description") optional text
@@ -204,10 +223,12 @@ table reference_object =
     ∷ row (codes "default") optional any
     ∷ row (codes "title") optional text ∷ []
 -- Discriminator Object: section 4.8.25
+-- not kept: `defaultMapping` of 3.2
 table discriminator_object =
     row (codes "propertyName") required text
     ∷ row (codes "mapping") defaulted (map_of text) ∷ []
 -- XML Object: section 4.8.26; `nodeType` from 3.2
+-- not kept: extensions
 table xml_object =
     row (codes "name") optional text
     ∷ row (codes "namespace") optional text
@@ -215,7 +236,10 @@ table xml_object =
     ∷ row (codes "nodeType") optional text
     ∷ row (codes "attribute") optional flag
     ∷ row (codes "wrapped") optional flag ∷ []
--- Schema Object: section 4.8.24, with `oneOf` (JSON Schema 2020-12, Core, section 10.2.1.3)
+-- Schema Object: section 4.8.24. Each of its five tables keeps the keywords of its own rows alone, and beside `$ref` those of the Reference
+-- Object are kept. For all five it is stricter that true is a schema at `additionalProperties` alone, and false there and at `items` alone.
+-- Schema Object with `oneOf` (JSON Schema 2020-12, Core, section 10.2.1.3)
+-- not kept: other keywords, as `not`, `deprecated`, `externalDocs`, `xml`, `properties`, `allOf`
 table one_of_schema =
     row (codes "oneOf") required (list_of (ref_or schema))
     ∷ row (codes "type") defaulted schema_type
@@ -228,6 +252,7 @@ table one_of_schema =
     ∷ row (codes "readOnly") optional flag
     ∷ row (codes "writeOnly") optional flag ∷ []
 -- Schema Object with `allOf` (JSON Schema 2020-12, Core, section 10.2.1.1)
+-- not kept: other keywords, as `not`, `deprecated`, `externalDocs`, `xml`, `properties`, `anyOf`, `readOnly`, `writeOnly`
 table all_of_schema =
     row (codes "allOf") required (list_of (ref_or schema))
     ∷ row (codes "type") defaulted schema_type
@@ -238,6 +263,7 @@ table all_of_schema =
     ∷ row (codes "examples") defaulted (list_of any)
     ∷ row (codes "discriminator") optional (named discriminator_object) ∷ []
 -- Schema Object with `anyOf` (JSON Schema 2020-12, Core, section 10.2.1.2)
+-- not kept: other keywords, as `not`, `deprecated`, `externalDocs`, `xml`, `properties`, `title`, `readOnly`, `writeOnly`
 table any_of_schema =
     row (codes "anyOf") required (list_of (ref_or schema))
     ∷ row (codes "type") defaulted schema_type
@@ -247,6 +273,9 @@ table any_of_schema =
     ∷ row (codes "examples") defaulted (list_of any)
     ∷ row (codes "discriminator") optional (named discriminator_object) ∷ []
 -- Schema Object of an array (JSON Schema 2020-12, Core, section 10.3.1, and Validation, sections 6.4, 8 and 9)
+-- not kept: other keywords, as `not`, `const`, `enum`, `contains`, `externalDocs`, `readOnly`, `writeOnly`
+-- stricter: `type` and `items` are asked for, and a schema at `prefixItems` is no reference; with a `type` what does not fit here may
+-- fit the next table, which drops `items` and `prefixItems`
 table array_schema =
     row (codes "type") required schema_type
     ∷ row (codes "title") optional text
@@ -265,6 +294,8 @@ table array_schema =
     ∷ row (codes "contentMediaType") defaulted text
     ∷ row (codes "contentSchema") optional (ref_or schema) ∷ []
 -- Schema Object of any other type (JSON Schema 2020-12, Core, section 10.3.2, and Validation, sections 6 to 9)
+-- not kept: other keywords, as `not`, `const`, `patternProperties`, `externalDocs`, `discriminator`
+-- stricter: a schema at `propertyNames` is no reference
 table object_schema =
     row (codes "type") defaulted schema_type
     ∷ row (codes "title") optional text
@@ -301,6 +332,7 @@ table api_key_scheme =
     ∷ row (codes "description") optional text
     ∷ row (codes "deprecated") optional flag ∷ []
 -- Security Scheme Object, `http`; `deprecated` from 3.2
+-- stricter: `scheme` is one of the words as they are written; the standard allows other names, and any case
 table http_scheme =
     row (codes "scheme") required (word_of http_auth_scheme)
     ∷ row (codes "bearerFormat") optional text
@@ -316,6 +348,7 @@ table mutual_tls_scheme =
     row (codes "description") optional text
     ∷ row (codes "deprecated") optional flag ∷ []
 -- Security Scheme Object, `oauth2`; `oauth2MetadataUrl` and `deprecated` from 3.2
+-- not kept: extensions of `flows`, an OAuth Flows Object; stricter: each of its members is a flow, also one whose name begins `x-`
 table oauth2_scheme =
     row (codes "flows") required flows
     ∷ row (codes "oauth2MetadataUrl") optional text
@@ -351,44 +384,3 @@ table device_authorization_flow =
 -- the member `scopes` of an OAuth Flow Object, by itself
 table scopes_object =
     row (codes "scopes") required (map_of text) ∷ []
-
--- Specification Extensions: section 4.9. Whether the members whose names begin `x-` are kept.
-abbrev pub has_extensions : ObjectType → Bool
-has_extensions open_api_object = true
-has_extensions info_object = true
-has_extensions contact_object = true
-has_extensions license_object = true
-has_extensions server_object = true
-has_extensions server_variable_object = true
-has_extensions components_object = true
-has_extensions path_item_object = true
-has_extensions operation_object = true
-has_extensions external_docs_object = true
-has_extensions parameter_object = true
-has_extensions request_body_object = true
-has_extensions media_type_object = true
-has_extensions encoding_object = true
-has_extensions response_object = true
-has_extensions example_object = true
-has_extensions link_object = true
-has_extensions header_object = true
-has_extensions tag_object = true
-has_extensions reference_object = false
-has_extensions discriminator_object = true
-has_extensions xml_object = false
-has_extensions one_of_schema = true
-has_extensions all_of_schema = true
-has_extensions any_of_schema = true
-has_extensions array_schema = true
-has_extensions object_schema = true
-has_extensions api_key_scheme = true
-has_extensions http_scheme = true
-has_extensions open_id_connect_scheme = true
-has_extensions mutual_tls_scheme = true
-has_extensions oauth2_scheme = true
-has_extensions implicit_flow = true
-has_extensions password_flow = true
-has_extensions client_credentials_flow = true
-has_extensions authorization_code_flow = true
-has_extensions device_authorization_flow = true
-has_extensions scopes_object = false

@@ -1,4 +1,4 @@
--- Which documents are plain, and which are well-formed. A well-formed document reads back from its own tree.
+-- Which documents are plain, which are unambiguous, and which are both: well-formed. A well-formed document reads back from its own tree.
 use Rattle.std.specs.Prelude.{◌≡◌, ◌||◌, ◌&&◌, ℕ, List, Bool, true, false, not, Option, None, Some, option_and_then, codes}
 use Rattle.serde_json.specs.Data.{Data, Members}
 use Rattle.serde_json.specs.Find.{get, as_str}
@@ -12,7 +12,8 @@ use Rattle.utoipa_base.specs.Writing.{write}
 
 -- ---- plain
 
--- whether a tree in the document holds a fraction: a number that is neither an i64 nor a u64
+-- whether a tree in the document holds a fraction: a number that is neither an i64 nor a u64, such as 1.5, 1.0 and 2^64. Of one tree
+-- that is serde_json's word `has_float`.
 unfoldable mutual
   pub has_fraction : Doc → Bool
   has_fraction (text_doc s) = false
@@ -48,26 +49,28 @@ unfoldable mutual
 abbrev pub IsPlain : Doc → Type 0
 IsPlain d = has_fraction d ≡ false
 
--- ---- well-formed
+-- ---- unambiguous
 
--- each extension's name begins `x-`
+-- each extension's name begins `x-`, so that none reads as a member that the object's type names
 abbrev pub AllExtensions : Option Members → Type 0
 AllExtensions e = all_extensions (members_or_none e) ≡ true
 
--- no name of an entry begins `x-`
+-- no entry's name begins `x-`, so that none reads as an extension
 abbrev pub names_no_extension : Entries → Bool
 names_no_extension no_entries = true
 names_no_extension (entry k d es) = not (is_extension k) && names_no_extension es
 
--- a flow stands under its own key
+-- a flow stands under its own key, so that it reads as a flow of its type
 abbrev pub KeyOf : List ℕ → Doc → Type 0
 KeyOf key (flow_doc (table_doc n ds e)) = chosen key flow_keys ≡ Some n
 KeyOf key d = Unit {0}
 
--- the tree has no text at `$ref`, so it is no reference
+-- the tree has no text at `$ref`, so that it reads as no reference
 abbrev pub IsNoReference : Data → Type 0
 IsNoReference t = option_and_then as_str (get (codes "$ref") t) ≡ None
 
+-- each place of the written tree reads as what it was written from: extensions' names begin `x-`, entries' names beside extensions do
+-- not, a flow stands under its own key, and what stands in place of a reference has no text at `$ref`
 unfoldable mutual
   pub IsUnambiguous : Doc → Type 0
   IsUnambiguous (text_doc s) = Unit {0}
@@ -92,15 +95,19 @@ unfoldable mutual
   IsUnambiguous (entries_doc es e) = AreUnambiguousEntries es × (names_no_extension es ≡ true) × AllExtensions e
   IsUnambiguous (table_doc n ds e) = AreUnambiguous ds × AllExtensions e
 
+  -- each document of a list or of an object's fields
   pub AreUnambiguous : Docs → Type 0
   AreUnambiguous no_docs = Unit {0}
   AreUnambiguous (doc d ds) = IsUnambiguous d × AreUnambiguous ds
 
+  -- each entry of a map
   pub AreUnambiguousEntries : Entries → Type 0
   AreUnambiguousEntries no_entries = Unit {0}
   AreUnambiguousEntries (entry key d es) = IsUnambiguous d × KeyOf key d × AreUnambiguousEntries es
 
--- plain, and well-formed at every place
+-- ---- well-formed
+
+-- plain, and unambiguous at every place
 abbrev pub IsWellFormed : Doc → Type 0
 IsWellFormed d = IsPlain d × IsUnambiguous d
 

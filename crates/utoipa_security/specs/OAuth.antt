@@ -12,7 +12,7 @@ use Rattle.utoipa_base.specs.Extensions.{extensions_view}
 use Rattle.utoipa_base.specs.Flags.{deprecated_doc}
 use Rattle.utoipa_base.specs.Kinds.{ObjectType, named, text, flag, flows, oauth2_scheme, implicit_flow, password_flow, client_credentials_flow, authorization_code_flow, device_authorization_flow}
 use Rattle.utoipa_base.specs.OfKind.{text_of_kind, option_of_kind, deprecated_of_kind, extends_of_kind, entries_of_kind}
-use Rattle.utoipa_base.specs.Reading.{reader, read, read_flow, or_else}
+use Rattle.utoipa_base.specs.Reading.{reader, first_that_fits, read_flow}
 use Rattle.utoipa_base.specs.Shape.{IsOf, RowsOf, value_of, flow_place}
 use Rattle.utoipa_base.specs.Views.{text_of, option_of, map_of_docs}
 use Rattle.utoipa_security.specs.Flows as tables
@@ -66,11 +66,7 @@ every_flow_kind = kinds.Implicit ∷ kinds.Password ∷ kinds.ClientCredentials 
 
 -- the first kind of flows that a tree fits
 abbrev pub any_flow_read : Data → Option Doc
-any_flow_read d =
-    or_else (read (named implicit_flow) d)
-    (or_else (read (named password_flow) d)
-    (or_else (read (named client_credentials_flow) d)
-    (or_else (read (named authorization_code_flow) d) (read (named device_authorization_flow) d))))
+any_flow_read d = first_that_fits flow_keys (reader d)
 
 -- the flow that a tree under a key is
 abbrev pub flow_read : List ℕ → Data → Option Doc
@@ -79,11 +75,11 @@ flow_read key d = read_flow (chosen key flow_keys) (reader d)
 -- a flow may stand among flows
 pub flow_of_place : (f : Flow) → IsOf (flow_view f) flow_place
 unfolding IsOf
-flow_of_place (made.Implicit f) = (implicit_flow, refl, refl, tables.implicit_of_kind f)
-flow_of_place (made.Password f) = (password_flow, refl, refl, tables.password_of_kind f)
-flow_of_place (made.ClientCredentials f) = (client_credentials_flow, refl, refl, tables.client_credentials_of_kind f)
-flow_of_place (made.AuthorizationCode f) = (authorization_code_flow, refl, refl, tables.authorization_code_of_kind f)
-flow_of_place (made.DeviceAuthorization f) = (device_authorization_flow, refl, refl, tables.device_authorization_of_kind f)
+flow_of_place (made.Implicit f) = (implicit_flow, refl, (flow_key (made.Implicit f), refl), tables.implicit_of_kind f)
+flow_of_place (made.Password f) = (password_flow, refl, (flow_key (made.Password f), refl), tables.password_of_kind f)
+flow_of_place (made.ClientCredentials f) = (client_credentials_flow, refl, (flow_key (made.ClientCredentials f), refl), tables.client_credentials_of_kind f)
+flow_of_place (made.AuthorizationCode f) = (authorization_code_flow, refl, (flow_key (made.AuthorizationCode f), refl), tables.authorization_code_of_kind f)
+flow_of_place (made.DeviceAuthorization f) = (device_authorization_flow, refl, (flow_key (made.DeviceAuthorization f), refl), tables.device_authorization_of_kind f)
 
 -- ---- flows
 
