@@ -75,13 +75,7 @@ impl Tree for ExternalDocs {
 
     ghost doc = { external_docs_doc };
 
-    const IS_SCHEMA: bool = false;
-
-    ghost IS_SCHEMA = { false };
-
     ghost is_of_kind = { external_docs_of_kind };
-
-    ghost counts_as_schema = { refl };
 
     fn read_plain(
         alloc: Global,

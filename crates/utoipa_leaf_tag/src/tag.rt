@@ -6,10 +6,24 @@ use crate::external_docs::ExternalDocs;
 use serde_json::Value;
 use std::alloc::{AllocError, Global};
 use utoipa_base::{
-    Extensions, ReadFault, Readings, Same, Tree, clone_extensions, clone_option,
-    extensions_have_fraction, option_has_fraction, read_extensions, row_option, row_required,
-    same_extensions, same_option, write_option, write_required, written_extensions,
+    Extensions, ReadFault, Readings, Same, Tree, clone_table, read_table, same_table,
+    table_has_fraction, write_table,
 };
+
+// The rows of a tag, in the order of its member table: mark, member, field.
+macro_rules! tag_rows {
+    ($lines:ident!($($arguments:tt)*)) => {
+        $lines! {
+            $($arguments)*;
+            required "name" name,
+            optional "summary" summary,
+            optional "description" description,
+            optional "parent" parent,
+            optional "kind" kind,
+            optional "externalDocs" external_docs,
+        }
+    };
+}
 
 /// A Tag Object (OpenAPI 3.1, section 4.8.22): what is to be said of a tag that operations bear.
 #[derive(Debug, Drop)]
@@ -62,13 +76,7 @@ impl Tag {
     pub fn has_fraction(&self) -> bool
         ensures { result ≡ has_fraction (tag_doc self.now) }
     {
-        self.name.has_fraction()
-            || option_has_fraction(&self.summary)
-            || option_has_fraction(&self.description)
-            || option_has_fraction(&self.parent)
-            || option_has_fraction(&self.kind)
-            || option_has_fraction(&self.external_docs)
-            || extensions_have_fraction(&self.extensions)
+        tag_rows!(table_has_fraction!(self))
     }
 
     /// Whether both are equal, extensions and all. Neither may hold a fraction.
@@ -78,17 +86,10 @@ impl Tag {
         requires other_whole { has_fraction (tag_doc other.now) ≡ false }
         ensures { IsTrue result ↔ (tag_doc self.now ≡ tag_doc other.now) }
     {
-        self.name.same(&other.name)
-            && same_option(&self.summary, &other.summary)
-            && same_option(&self.description, &other.description)
-            && same_option(&self.parent, &other.parent)
-            && same_option(&self.kind, &other.kind)
-            && same_option(&self.external_docs, &other.external_docs)
-            && same_extensions(&self.extensions, &other.extensions)
+        tag_rows!(same_table!(self, other))
     }
 }
 
-#[tactic(auto, using(utoipa_base::proofs::ByRows::by_table))]
 impl Tree for Tag {
     ghost use Rattle.utoipa_leaf_tag.specs.Tag.{tag_doc, tag_of_kind};
 
@@ -96,57 +97,18 @@ impl Tree for Tag {
 
     ghost doc = { tag_doc };
 
-    const IS_SCHEMA: bool = false;
-
-    ghost IS_SCHEMA = { false };
-
     ghost is_of_kind = { tag_of_kind };
 
-    ghost counts_as_schema = { refl };
-
     fn read_plain(alloc: Global, tree: &Value, readings: &mut Readings) -> Result<Tag, ReadFault> {
-        if !tree.is_object() {
-            return Err(ReadFault::Kind("Tag"));
-        }
-        let name = row_required(alloc, tree, "name", readings)?;
-        let summary = row_option(alloc, tree, "summary", readings)?;
-        let description = row_option(alloc, tree, "description", readings)?;
-        let parent = row_option(alloc, tree, "parent", readings)?;
-        let kind = row_option(alloc, tree, "kind", readings)?;
-        let external_docs = row_option(alloc, tree, "externalDocs", readings)?;
-        let extensions = read_extensions(alloc, tree)?;
-        Ok(Tag {
-            name,
-            summary,
-            description,
-            parent,
-            kind,
-            external_docs,
-            extensions,
-        })
+        tag_rows!(read_table!(Tag, alloc, tree, readings))
     }
 
     fn to_value(&self, alloc: Global) -> Result<Value, AllocError> {
-        let mut members = written_extensions(alloc, &self.extensions)?;
-        write_required(&mut members, alloc, "name", &self.name)?;
-        write_option(&mut members, alloc, "summary", &self.summary)?;
-        write_option(&mut members, alloc, "description", &self.description)?;
-        write_option(&mut members, alloc, "parent", &self.parent)?;
-        write_option(&mut members, alloc, "kind", &self.kind)?;
-        write_option(&mut members, alloc, "externalDocs", &self.external_docs)?;
-        Ok(Value::Object(members))
+        tag_rows!(write_table!(self, alloc))
     }
 
     fn try_clone(&self, alloc: Global) -> Result<Tag, AllocError> {
-        Ok(Tag {
-            name: self.name.try_clone(alloc)?,
-            summary: clone_option(alloc, &self.summary)?,
-            description: clone_option(alloc, &self.description)?,
-            parent: clone_option(alloc, &self.parent)?,
-            kind: clone_option(alloc, &self.kind)?,
-            external_docs: clone_option(alloc, &self.external_docs)?,
-            extensions: clone_extensions(alloc, &self.extensions)?,
-        })
+        tag_rows!(clone_table!(Tag, self, alloc))
     }
 }
 
