@@ -1,19 +1,20 @@
 #!/usr/bin/env python3
-"""Writes the proofs of a type, or of a part of one, that is read and written row by row.
+"""Writes the proofs of a type that is read and written by the list of its rows, or of a part of a table.
 
     tools/answers.py CRATE MODULE TYPE..
     tools/answers.py --parts CRATE MODULE PART..
 
 reads crates/CRATE/src/MODULE.rt and writes, for each TYPE, the answers of its `read_plain` and `to_value` below
-crates/CRATE/proofs/MODULE/. The type's `impl Tree` has to have the form of the others: in `read_plain` the test
-`is_object`, a line `let FIELD = row_..(alloc, tree, "..", readings)?;` for each row in the order of the member table,
-and `read_extensions` last, if the type has extensions; in `to_value` a line `write_..(&mut members, ..)?;` for each row
-in that order. Run it again after a row was added, removed or moved. docs/PROOFS.md tells what the answers say.
+crates/CRATE/proofs/MODULE/. The rows of a type stand there in a macro of its name, as `tag_rows` of `Tag`: a line
+`MARK "name" field,` for each, in the order of the member table. In its `impl Tree` the body of `read_plain` is
+`read_table!` of those rows and that of `to_value` is `write_table!`, or both are `.._alone!` for a type that keeps no
+extensions. Run it again after a row was added, removed or moved. docs/PROOFS.md tells what the answers say.
 
 With --parts it writes, for each PART, a struct that is some rows of a table, the answers of the functions of the module
-that read and write it, as `read_object_head` and `write_object_head` of `ObjectHead`. The contract of the reader names the
-part's rows, as `part object_head_rows (view tree.now)`, which specs/Plain.antt of the crate has; the lines are those of a
-type, with a counter of its own in place of `readings`.
+that read and write it, as `read_object_head` and `write_object_head` of `ObjectHead`. The reader has a line
+`let FIELD = row_..(alloc, tree, "..", readings)?;` for each row in the order of the member table, with a counter of its own
+in place of `readings`, and the writer a line `write_..(members, ..)?;`. The contract of the reader names the part's rows, as
+`part object_head_rows (view tree.now)`, which specs/Plain.antt of the crate has.
 """
 import os
 import re
@@ -21,6 +22,7 @@ import sys
 
 HEADER = "-- Written by tools/answers.py {crate} {module} {type}\n"
 PART_HEADER = "-- Written by tools/answers.py --parts {crate} {module} {type}\n"
+LISTED = r"\b(?:required|optional|or_null|defaulted) \"[^\"]+\" (\w+),"
 ROW = r"let (\w+) = row_\w+\(alloc, tree, \"[^\"]+\", (?:readings|&mut uncounted)\)\?;"
 CALL = r"(write_\w+)\(\s*(?:&mut )?members,\s"
 
@@ -36,10 +38,6 @@ def body_of(source, start):
             if depth == 0:
                 return source[begin + 1 : at]
     raise ValueError("no closing brace")
-
-
-def function_of(block, name):
-    return body_of(block, block.index("fn %s(" % name))
 
 
 def numbered(names):
@@ -72,60 +70,38 @@ def fitting(rows):
     return term
 
 
-def written(calls):
+def written(steps):
     """The rows are written, since each is."""
     term = "rows-nil _"
-    for call in reversed(numbered(calls)):
-        term = "rows-cons _ _ _ _ _ _ _ c.in_ok-%s.ensures\n    (%s)" % (call, term)
+    for step in reversed(steps):
+        term = "rows-cons _ _ _ _ _ _ _ c.%s.ensures.ok\n    (%s)" % (step, term)
     return term
 
 
-def read_answers(crate, path, table, rows, extensions):
+def read_answers(path, table, macro, first):
+    """The answers of a reader. Its one `?` stands in a macro, so its step is named by the macro and the first field."""
+    step = "%s-%s" % (macro, first)
     lines = [
-        "use Rattle.std.proofs.Common.{◌≡◌, ◌∙◌, is_some, true, sym, arith}",
-        "use Rattle.serde_json.specs.Find.{as_object}",
-        "use Rattle.serde_json.specs.View.{view}",
+        "use Rattle.std.proofs.Common.{refl, arith}",
         "use Rattle.utoipa_base.specs.Kinds.{%s}" % table,
-        "use Rattle.utoipa_base.proofs.ByRows.{passes_on, table_refused, table_fits, fields-first%s, fields-fit, fields-nil, read-no_object%s}"
-        % (", fields-later" if len(rows) > 1 else "", "" if extensions else ", no_extensions"),
-        "use Rattle.utoipa_base.proofs.Places.{read_none, read_more, table_counted}",
-        "use Rattle.utoipa_base.proofs.Values.{table_values}",
+        "use Rattle.utoipa_base.proofs.RowLists.{passes_reads, reads_as}",
         "use %s.read_plain.Goals as goal" % path,
+        "",
+        "pub returns : goal.returns",
+        "returns c ="
+        " passes_reads _ _ _ _ _ _ _ _ _ _ _ c.%s-from_residual.ensures.1 (c.in_Break-%s.ensures %s refl refl)"
+        " (λ h. h) (omega arith) (omega arith)" % (macro, step, table),
+        "",
+        "pub returns-2 : goal.returns-2",
+        "returns-2 c = reads_as _ _ _ _ _ _ _ _ refl (c.in_Continue-%s.ensures %s refl refl)" % (step, table),
     ]
-
-    def answer(name, term):
-        space = "" if term.startswith("\n") else " "
-        lines.append("\npub %s : goal.%s\n%s c =%s%s" % (name, name, name, space, term))
-
-    most = "omega (arith, table_values %s (view c.args.tree.now))" % table
-    answer(
-        "returns-then-not-is_object-clause-err",
-        "read-no_object %s _ (sym c.is_object.ensures ∙ c.if-not-is_object.true)" % table,
-    )
-    for at, row in enumerate(rows):
-        answer(
-            "returns-in_err-%s-clause-err" % row,
-            "passes_on _ _ _ _ c.%s.ensures.1 c.in_err-%s.ensures.err (λ h. table_refused %s _ (%s))"
-            % (residual(rows, at), row, table, refused(at)),
-        )
-        answer("returns-in_err-%s-clause-at_most" % row, most)
-    if extensions:
-        answer("returns-in_err-extensions-clause-at_most", most)
-    counted = "read_none _"
-    for row in reversed(rows):
-        counted = "read_more _ _ _ _ _ c.in_ok-%s.ensures.grows c.in_ok-%s.ensures.at_least\n    (%s)" % (row, row, counted)
-    answer(
-        "returns-clause-ok",
-        "\n    let is : is_some (as_object (view c.args.tree.now)) ≡ true = sym c.is_object.ensures ∙ c.if-not-is_object.false in"
-        "\n    table_fits %s _ _ _ is\n    (%s)\n    %s"
-        % (table, fitting(rows), "c.in_ok-extensions.ensures" if extensions else "(no_extensions (view c.args.tree.now))"),
-    )
-    answer("returns-clause-at_most", most)
-    answer("returns-clause-at_least", "\n    table_counted _ _ %s _ _\n    (%s)" % (table, counted))
     return "\n".join(lines) + "\n"
 
 
-def write_answers(path, table, calls, extensions):
+def write_answers(path, table, macro, rows, extensions):
+    """The answers of a writer. Each `?` stands in a macro, and may return, so the last return is the one that writes."""
+    steps = numbered(["in_Continue-%s-%s" % (macro, macro)] * (rows + extensions))
+    last = "returns-%d" % (len(steps) + 1)
     lines = ["use Rattle.utoipa_base.specs.Kinds.{%s}" % table]
     if not extensions:
         lines[:0] = ["use Rattle.std.proofs.Common.{◌≡◌, None, rules}"]
@@ -134,15 +110,15 @@ def write_answers(path, table, calls, extensions):
         "use Rattle.utoipa_base.proofs.ByRows.{table_written, rows-cons, rows-nil}",
         "use %s.to_value.Goals as goal" % path,
         "",
-        "pub returns : goal.returns",
-        "returns c =",
+        "pub %s : goal.%s" % (last, last),
+        "%s c =" % last,
     ]
     if extensions:
-        lines.append("    table_written %s _ _ _ _ c.in_ok-members.ensures" % table)
+        lines.append("    table_written %s _ _ _ _ c.%s.ensures" % (table, steps[0]))
     else:
-        lines.append("    let none : members_view c.new-members.result.entries ≡ no_members = search rules in")
+        lines.append("    let none : members_view c.%s-new.result.entries ≡ no_members = search rules in" % macro)
         lines.append("    table_written %s _ None _ _ none" % table)
-    lines.append("    (%s)" % written(calls))
+    lines.append("    (%s)" % written(steps[extensions:]))
     return "\n".join(lines) + "\n"
 
 
@@ -174,7 +150,7 @@ def write_part_answers(path, calls):
         "",
         "pub returns : goal.returns",
         "returns c =",
-        "    sym\n    (%s)" % written(calls),
+        "    sym\n    (%s)" % written(["in_ok-" + it for it in numbered(calls)]),
     ]
     return "\n".join(lines) + "\n"
 
@@ -192,28 +168,37 @@ def matched(name, rows, calls):
         raise SystemExit("%s reads %d rows and writes %d" % (name, len(rows), len(calls)))
 
 
+def snake_of(name):
+    return re.sub(r"(?<!^)(?=[A-Z])", "_", name).lower()
+
+
 def write_type(crate, module, name):
-    source = open("crates/%s/src/%s.rt" % (crate, module)).read()
+    with open("crates/%s/src/%s.rt" % (crate, module)) as text:
+        source = text.read()
+    rows = snake_of(name) + "_rows"
+    if "macro_rules! %s {" % rows not in source:
+        raise SystemExit("no list %s of the rows of %s" % (rows, name))
+    fields = re.findall(LISTED, body_of(source, source.index("macro_rules! %s {" % rows)))
     block = body_of(source, source.index("impl Tree for %s {" % name))
     table = re.search(r"ghost kind = \{ named (\w+) \};", block)[1]
-    reader, writer = function_of(block, "read_plain"), function_of(block, "to_value")
-    rows, calls = re.findall(ROW, reader), re.findall(CALL, writer)
-    matched(name, rows, calls)
-    extensions = "read_extensions(" in reader
+    forms = re.findall(re.escape(rows) + r"!\((read|write)_table(_alone)?!\(", block)
+    if [it for it, _ in forms] != ["read", "write"] or forms[0][1] != forms[1][1]:
+        raise SystemExit("%s is not both read and written by %s" % (name, rows))
+    alone = forms[0][1]
     header = HEADER.format(crate=crate, module=module, type=name)
     folder = "crates/%s/proofs/%s/%sTree" % (crate, module, name)
     path = "Rattle.%s.proofs.%s.%sTree" % (crate, module.replace("/", "."), name)
     answers = {
-        "read_plain": read_answers(crate, path, table, rows, extensions),
-        "to_value": write_answers(path, table, calls, extensions),
+        "read_plain": read_answers(path, table, "read_table" + alone, fields[0]),
+        "to_value": write_answers(path, table, "write_table" + alone, len(fields), not alone),
     }
     save(folder, header, answers)
 
 
 def write_part(crate, module, name):
-    source = open("crates/%s/src/%s.rt" % (crate, module)).read()
-    snake = re.sub(r"(?<!^)(?=[A-Z])", "_", name).lower()
-    reader, writer = ("%s_%s" % (verb, snake) for verb in ("read", "write"))
+    with open("crates/%s/src/%s.rt" % (crate, module)) as text:
+        source = text.read()
+    reader, writer = ("%s_%s" % (verb, snake_of(name)) for verb in ("read", "write"))
     item = {name: source[source.index("fn %s(" % name) :].split("\n}\n")[0] for name in (reader, writer)}
     part = re.search(r"\bpart (\w+) \(view tree\.now\)", item[reader])[1]
     rows, calls = re.findall(ROW, item[reader]), re.findall(CALL, item[writer])

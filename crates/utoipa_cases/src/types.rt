@@ -12,9 +12,8 @@ use utoipa_leaf::path::{HttpMethod, ParameterIn, ParameterStyle};
 use utoipa_leaf::server::{Server, ServerVariable};
 use utoipa_leaf::tag::Tag;
 use utoipa_leaf::version::OpenApiVersion;
-use utoipa_leaf::xml::Xml;
 use utoipa_schema::{AdditionalProperties, AllOf, AnyOf, Array, ArrayItems, Object, OneOf, Schema};
-use utoipa_schema_words::{Discriminator, KnownFormat, SchemaFormat, SchemaType, TypeWord};
+use utoipa_schema_parts::{Discriminator, KnownFormat, SchemaFormat, SchemaType, TypeWord, Xml};
 use utoipa_security::security::{
     ApiKey, ApiKeyValue, AuthorizationCode, ClientCredentials, DeviceAuthorization, Http,
     HttpAuthScheme, Implicit, OAuth2, OpenIdConnect, Password, Scopes, SecurityRequirement,

@@ -1,7 +1,10 @@
-//! The objects of the document model that hold no schema, under the modules of the original crate.
+//! The objects and words of the document model that hold no schema, under the modules of the original crate.
 #![tactic(auto)]
 
-pub use utoipa_leaf_info::{example, info, xml};
-pub use utoipa_leaf_server::server;
-pub use utoipa_leaf_tag::{external_docs, tag};
-pub use utoipa_leaf_words::{path, version};
+pub mod example;
+pub mod external_docs;
+pub mod info;
+pub mod path;
+pub mod server;
+pub mod tag;
+pub mod version;

@@ -9,10 +9,10 @@ use Rattle.utoipa_base.specs.Views.{text_of, tree_of, option_of, list_of_docs}
 use Rattle.utoipa_base.specs.declared.deprecated.Deprecated.TheVariants as deprecation
 use Rattle.utoipa_base.specs.declared.number.Number.TheVariants.{Int, UInt}
 use Rattle.utoipa_base.proofs.Places.{option_places, schema_count-text, schema_count-flag, schema_count-whole, schema_count-tree}
-use Rattle.utoipa_leaf_info.specs.Xml.{xml_doc}
-use Rattle.utoipa_schema_words.specs.Discriminator.{discriminator_doc}
-use Rattle.utoipa_schema_words.specs.Format.{schema_format_doc}
-use Rattle.utoipa_schema_words.proofs.Counts.{schema_type_counts_none, schema_format_counts_none, discriminator_counts_none}
+use Rattle.utoipa_schema_parts.specs.Xml.{xml_doc}
+use Rattle.utoipa_schema_parts.specs.Discriminator.{discriminator_doc}
+use Rattle.utoipa_schema_parts.specs.Format.{schema_format_doc}
+use Rattle.utoipa_schema_parts.proofs.Counts.{schema_type_counts_none, schema_format_counts_none, discriminator_counts_none}
 use Rattle.utoipa_schema.specs.Plain.{combination_docs, object_head_docs, object_annotation_docs, number_limit_docs, size_limit_docs, array_head_docs, array_annotation_docs, array_limit_docs}
 use Rattle.utoipa_schema.specs.declared.plain.combination.Combination.{Combination}
 use Rattle.utoipa_schema.specs.declared.plain.object.ObjectHead.{ObjectHead}

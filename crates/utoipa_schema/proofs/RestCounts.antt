@@ -6,8 +6,8 @@ use Rattle.utoipa_base.specs.Refs.{ref_or_doc}
 use Rattle.utoipa_base.specs.Values.{schema_count, docs_schema_count}
 use Rattle.utoipa_base.specs.Views.{option_of, list_of_docs, map_of_docs}
 use Rattle.utoipa_base.proofs.Places.{schema_count-flag}
-use Rattle.utoipa_schema_words.specs.Types.{schema_type_doc}
-use Rattle.utoipa_schema_words.specs.declared.types.SchemaType.{SchemaType}
+use Rattle.utoipa_schema_parts.specs.Types.{schema_type_doc}
+use Rattle.utoipa_schema_parts.specs.declared.types.SchemaType.{SchemaType}
 use Rattle.utoipa_schema.specs.Choice.{content_schema_doc}
 use Rattle.utoipa_schema.specs.Docs.{boxed, places_doc, additional_properties_doc, schema_doc, array_items_doc, one_of_doc, all_of_doc, any_of_doc, array_doc, object_doc}
 use Rattle.utoipa_schema.specs.Plain.{combination_docs, combination_of_one_of, combination_of_all_of, combination_of_any_of, object_head_docs, head_of_object, object_annotation_docs, annotations_of_object, number_limit_docs, number_limits_of_object, size_limit_docs, size_limits_of_object, array_head_docs, head_of_array, array_annotation_docs, annotations_of_array, array_limit_docs, limits_of_array}
@@ -17,7 +17,7 @@ use Rattle.utoipa_schema.specs.declared.types.Array.{Array}
 use Rattle.utoipa_schema.specs.declared.types.OneOf.{OneOf}
 use Rattle.utoipa_schema.specs.declared.types.AllOf.{AllOf}
 use Rattle.utoipa_schema.specs.declared.types.AnyOf.{AnyOf}
-use Rattle.utoipa_schema_words.proofs.Counts.{schema_type_counts_none}
+use Rattle.utoipa_schema_parts.proofs.Counts.{schema_type_counts_none}
 use Rattle.utoipa_schema.proofs.Joins.{docs_append}
 use Rattle.utoipa_schema.proofs.PlainCounts.{combination_counts_none, object_head_counts_none, object_annotation_counts_none, number_limit_counts_none, size_limit_counts_none, array_head_counts_none, array_annotation_counts_none, array_limit_counts_none}
 

@@ -7,10 +7,10 @@ use Rattle.serde_json.specs.declared.value.Value.TheVariants as tree
 use Rattle.utoipa_base.specs.declared.refs.Ref.{Ref}
 use Rattle.utoipa_base.specs.declared.refs.RefOr.{RefOr}
 use Rattle.utoipa_base.specs.declared.refs.RefOr.TheVariants as places
-use Rattle.utoipa_schema_words.specs.declared.types.SchemaType.{SchemaType}
-use Rattle.utoipa_schema_words.specs.declared.types.SchemaType.TheVariants as types
-use Rattle.utoipa_schema_words.specs.declared.types.TypeWord.{TypeWord}
-use Rattle.utoipa_schema_words.specs.declared.types.TypeWord.TheVariants as words
+use Rattle.utoipa_schema_parts.specs.declared.types.SchemaType.{SchemaType}
+use Rattle.utoipa_schema_parts.specs.declared.types.SchemaType.TheVariants as types
+use Rattle.utoipa_schema_parts.specs.declared.types.TypeWord.{TypeWord}
+use Rattle.utoipa_schema_parts.specs.declared.types.TypeWord.TheVariants as words
 use Rattle.utoipa_schema.specs.declared.types.Schema.{Schema}
 use Rattle.utoipa_schema.specs.declared.types.Schema.TheVariants as schemas
 use Rattle.utoipa_schema.specs.declared.types.ArrayItems.{ArrayItems}

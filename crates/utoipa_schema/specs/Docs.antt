@@ -13,10 +13,10 @@ use Rattle.utoipa_base.specs.Numbers.{number_doc}
 use Rattle.utoipa_base.specs.Refs.{ref_or_doc}
 use Rattle.utoipa_base.specs.declared.refs.RefOr.{RefOr}
 use Rattle.utoipa_base.specs.Views.{text_of, tree_of, option_of, list_of_docs, map_of_docs}
-use Rattle.utoipa_leaf_info.specs.Xml.{xml_doc}
-use Rattle.utoipa_schema_words.specs.Discriminator.{discriminator_doc}
-use Rattle.utoipa_schema_words.specs.Format.{schema_format_doc}
-use Rattle.utoipa_schema_words.specs.Types.{schema_type_doc}
+use Rattle.utoipa_schema_parts.specs.Xml.{xml_doc}
+use Rattle.utoipa_schema_parts.specs.Discriminator.{discriminator_doc}
+use Rattle.utoipa_schema_parts.specs.Format.{schema_format_doc}
+use Rattle.utoipa_schema_parts.specs.Types.{schema_type_doc}
 use Rattle.utoipa_schema.specs.declared.types.AdditionalProperties.{AdditionalProperties}
 use Rattle.utoipa_schema.specs.declared.types.AdditionalProperties.TheVariants as additional
 use Rattle.utoipa_schema.specs.declared.types.ArrayItems.{ArrayItems, ArrayItems-F, fold-ArrayItems}

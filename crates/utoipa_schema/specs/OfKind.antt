@@ -12,10 +12,10 @@ use Rattle.utoipa_base.specs.Shape.{IsOf, RowsOf, value_of}
 use Rattle.utoipa_base.specs.Views.{text_of, tree_of, list_of_docs}
 use Rattle.utoipa_base.specs.declared.refs.RefOr.{RefOr}
 use Rattle.utoipa_base.specs.declared.refs.RefOr.TheVariants as made
-use Rattle.utoipa_leaf_info.specs.Xml.{xml_doc, xml_of_kind}
-use Rattle.utoipa_schema_words.specs.Discriminator.{discriminator_doc, discriminator_of_kind}
-use Rattle.utoipa_schema_words.specs.Format.{schema_format_doc, schema_format_of_kind}
-use Rattle.utoipa_schema_words.specs.Types.{schema_type_of_kind}
+use Rattle.utoipa_schema_parts.specs.Xml.{xml_doc, xml_of_kind}
+use Rattle.utoipa_schema_parts.specs.Discriminator.{discriminator_doc, discriminator_of_kind}
+use Rattle.utoipa_schema_parts.specs.Format.{schema_format_doc, schema_format_of_kind}
+use Rattle.utoipa_schema_parts.specs.Types.{schema_type_of_kind}
 use Rattle.utoipa_schema.specs.Folds.{items_roll, schema_roll-Array, schema_roll-Object, schema_roll-OneOf, schema_roll-AllOf, schema_roll-AnyOf}
 use Rattle.utoipa_schema.specs.Layers.{items_natural, one_of_natural, all_of_natural, any_of_natural, array_natural, object_natural}
 use Rattle.utoipa_schema.specs.Docs.{boxed, additional_properties_doc, items_layer, places_doc, one_of_layer, all_of_layer, any_of_layer, array_layer, object_layer, schema_doc, array_items_doc, one_of_doc, all_of_doc, any_of_doc, array_doc, object_doc}

@@ -12,11 +12,11 @@ use Rattle.utoipa_base.specs.OfKind.{text_of_kind, flag_of_kind, whole_of_kind, 
 use Rattle.utoipa_base.specs.Shape.{RowsOf}
 use Rattle.utoipa_base.specs.Tables.{row}
 use Rattle.utoipa_base.specs.Views.{text_of, tree_of, option_of, list_of_docs}
-use Rattle.utoipa_leaf_info.specs.Xml.{xml_doc, xml_of_kind}
-use Rattle.utoipa_schema_words.specs.Discriminator.{discriminator_doc, discriminator_of_kind}
-use Rattle.utoipa_schema_words.specs.Format.{schema_format_doc, schema_format_of_kind}
-use Rattle.utoipa_schema_words.specs.Types.{schema_type_doc, schema_type_of_kind}
-use Rattle.utoipa_schema_words.specs.declared.discriminator.Discriminator.{Discriminator}
+use Rattle.utoipa_schema_parts.specs.Xml.{xml_doc, xml_of_kind}
+use Rattle.utoipa_schema_parts.specs.Discriminator.{discriminator_doc, discriminator_of_kind}
+use Rattle.utoipa_schema_parts.specs.Format.{schema_format_doc, schema_format_of_kind}
+use Rattle.utoipa_schema_parts.specs.Types.{schema_type_doc, schema_type_of_kind}
+use Rattle.utoipa_schema_parts.specs.declared.discriminator.Discriminator.{Discriminator}
 use Rattle.utoipa_schema.specs.Choice.{content_schema_row}
 use Rattle.utoipa_schema.specs.declared.types.Array.{Array}
 use Rattle.utoipa_schema.specs.declared.types.Object.{Object}

@@ -9,7 +9,7 @@ use crate::types::{AnyOf, Schema};
 use serde_json::Value;
 use std::alloc::{AllocError, Global};
 use utoipa_base::{Extensions, RefOr, list_from};
-use utoipa_schema_words::{Discriminator, SchemaType};
+use utoipa_schema_parts::{Discriminator, SchemaType};
 
 impl AnyOf {
     /// A combination of no schema, of which nothing else is said. Takes no memory.

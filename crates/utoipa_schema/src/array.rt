@@ -13,8 +13,7 @@ use serde_json::Value;
 use std::alloc::{AllocError, Global};
 use std::mem;
 use utoipa_base::{Deprecated, Extensions, Ref, RefOr, list_from};
-use utoipa_leaf_info::xml::Xml;
-use utoipa_schema_words::{SchemaType, TypeWord};
+use utoipa_schema_parts::{SchemaType, TypeWord, Xml};
 
 impl Array {
     /// The schema of an array whose items are of a schema, and of which nothing else is said. Fails where memory runs

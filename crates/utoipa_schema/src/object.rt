@@ -13,8 +13,7 @@ use serde_json::Value;
 use std::alloc::{AllocError, Global};
 use std::collections::BTreeMap;
 use utoipa_base::{Deprecated, Extensions, Number, RefOr, list_from, list_if_any};
-use utoipa_leaf_info::xml::Xml;
-use utoipa_schema_words::{SchemaFormat, SchemaType, TypeWord};
+use utoipa_schema_parts::{SchemaFormat, SchemaType, TypeWord, Xml};
 
 impl Object {
     /// The schema of an object, of which nothing else is said. Takes no memory.

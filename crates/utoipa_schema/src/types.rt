@@ -3,8 +3,7 @@
 use serde_json::Value;
 use std::collections::BTreeMap;
 use utoipa_base::{Deprecated, Extensions, Number, RefOr};
-use utoipa_leaf_info::xml::Xml;
-use utoipa_schema_words::{Discriminator, SchemaFormat, SchemaType};
+use utoipa_schema_parts::{Discriminator, SchemaFormat, SchemaType, Xml};
 
 /// A Schema Object (OpenAPI 3.1, section 4.8.24), by what it says first: a combination, an array, or an object of any
 /// other type.

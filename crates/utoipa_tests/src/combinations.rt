@@ -4,7 +4,7 @@ use crate::shared::{extension, is_written, text};
 use serde_json::Value;
 use std::process::Abort;
 use utoipa_schema::{AllOf, AllOfBuilder, AnyOf, AnyOfBuilder, OneOf, OneOfBuilder};
-use utoipa_schema_words::{Discriminator, TypeWord};
+use utoipa_schema_parts::{Discriminator, TypeWord};
 
 fn by_kind(rt: &(impl Abort + AllocGlobal)) -> Option<Discriminator> {
     Some(Discriminator::new(rt.alloc(), text(rt, "kind")))

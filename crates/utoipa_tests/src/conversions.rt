@@ -7,7 +7,7 @@ use utoipa_schema::{
     AdditionalProperties, AllOf, AnyOf, Array, ArrayBuilder, Object, OneOf, Schema,
     read_ref_or_schema, read_schema_list, read_schema_map, schema_from_ref_or,
 };
-use utoipa_schema_words::TypeWord;
+use utoipa_schema_parts::TypeWord;
 
 fn array_of_texts(rt: &(impl Abort + AllocGlobal)) -> Array {
     Array::new(rt.alloc(), place_of(rt, TypeWord::String)).expect(rt, "an array")

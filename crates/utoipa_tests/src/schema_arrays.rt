@@ -3,11 +3,10 @@ use crate::schema_parts::{place_of, schema_of, single, two_values};
 use crate::shared::{extension, is_written, text};
 use serde_json::Value;
 use utoipa_base::{Deprecated, Ref};
-use utoipa_leaf::xml::Xml;
 use utoipa_schema::{
     AllOf, AnyOf, Array, ArrayBuilder, ArrayItems, Object, OneOf, RefToArray, ToArray,
 };
-use utoipa_schema_words::{SchemaType, TypeWord};
+use utoipa_schema_parts::{SchemaType, TypeWord, Xml};
 
 #[test]
 fn an_array_is_of_its_items(rt: HostRuntime) {

@@ -4,9 +4,8 @@ use crate::shared::{extension, is_text, is_written, text};
 use serde_json::Value;
 use std::process::Abort;
 use utoipa_base::{Deprecated, Number};
-use utoipa_leaf::xml::Xml;
 use utoipa_schema::{AdditionalProperties, Object, ObjectBuilder, empty};
-use utoipa_schema_words::{KnownFormat, SchemaFormat, SchemaType, TypeWord};
+use utoipa_schema_parts::{KnownFormat, SchemaFormat, SchemaType, TypeWord, Xml};
 
 #[test]
 fn an_object_is_of_its_type(rt: HostRuntime) {

@@ -3,7 +3,7 @@ use serde_json::Value;
 use std::process::Abort;
 use utoipa_base::RefOr;
 use utoipa_schema::{Object, Schema};
-use utoipa_schema_words::{SchemaType, TypeWord};
+use utoipa_schema_parts::{SchemaType, TypeWord};
 
 pub fn two_values(rt: &(impl Abort + AllocGlobal)) -> std::vec::IntoIter<Value> {
     let values = Vec::from_array(rt.alloc(), [Value::from(1u64), Value::from(2u64)]);

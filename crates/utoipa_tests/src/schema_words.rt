@@ -4,7 +4,7 @@ use crate::shared::{is_text, is_tree, is_written, text, tree};
 use serde_json::{Map, Value};
 use std::process::Abort;
 use utoipa_base::{Readings, Tree, Word, row_or_empty, write_unless_empty};
-use utoipa_schema_words::{Discriminator, KnownFormat, SchemaFormat, SchemaType, TypeWord};
+use utoipa_schema_parts::{Discriminator, KnownFormat, SchemaFormat, SchemaType, TypeWord};
 
 // The types that a member `type` names, where it may be absent.
 fn member_type(rt: &(impl Abort + AllocGlobal), json: &str) -> SchemaType {

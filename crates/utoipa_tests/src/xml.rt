@@ -1,7 +1,7 @@
 //! Forms in XML by their builder, and compared.
 use crate::shared::{is_flag, is_written, is_written_first, text};
 use std::process::Abort;
-use utoipa_leaf::xml::{Xml, XmlBuilder, equal_as_documents};
+use utoipa_schema_parts::xml::{Xml, XmlBuilder, equal_as_documents};
 
 #[test]
 fn a_node_type_is_written(rt: HostRuntime) {

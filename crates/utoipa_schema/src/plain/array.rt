@@ -13,8 +13,7 @@ use utoipa_base::{
     Deprecated, ReadFault, Readings, Tree, clone_option, row_option, row_or_empty, row_required,
     write_option, write_required, write_unless_empty,
 };
-use utoipa_leaf_info::xml::Xml;
-use utoipa_schema_words::SchemaType;
+use utoipa_schema_parts::{SchemaType, Xml};
 
 /// The members of an [`Array`](crate::Array) before `items`.
 #[derive(Drop)]

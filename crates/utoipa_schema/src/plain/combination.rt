@@ -12,7 +12,7 @@ use utoipa_base::{
     ReadFault, Readings, Tree, clone_option, row_option, row_or_empty, write_option,
     write_unless_empty,
 };
-use utoipa_schema_words::Discriminator;
+use utoipa_schema_parts::Discriminator;
 
 /// The members that [`OneOf`](crate::OneOf), [`AllOf`](crate::AllOf) and [`AnyOf`](crate::AnyOf) share and that follow
 /// one another in each.

@@ -13,8 +13,7 @@ use utoipa_base::{
     Deprecated, Number, ReadFault, Readings, Tree, clone_option, row_option, row_or_empty,
     write_option, write_unless_empty,
 };
-use utoipa_leaf_info::xml::Xml;
-use utoipa_schema_words::{SchemaFormat, SchemaType};
+use utoipa_schema_parts::{SchemaFormat, SchemaType, Xml};
 
 /// The members of an [`Object`](crate::Object) before `properties`.
 #[derive(Drop)]

@@ -1,0 +1,11 @@
+-- Written by tools/answers.py utoipa_leaf info Info
+use Rattle.std.proofs.Common.{refl, arith}
+use Rattle.utoipa_base.specs.Kinds.{info_object}
+use Rattle.utoipa_base.proofs.RowLists.{passes_reads, reads_as}
+use Rattle.utoipa_leaf.proofs.info.InfoTree.read_plain.Goals as goal
+
+pub returns : goal.returns
+returns c = passes_reads _ _ _ _ _ _ _ _ _ _ _ c.read_table-from_residual.ensures.1 (c.in_Break-read_table-title.ensures info_object refl refl) (λ h. h) (omega arith) (omega arith)
+
+pub returns-2 : goal.returns-2
+returns-2 c = reads_as _ _ _ _ _ _ _ _ refl (c.in_Continue-read_table-title.ensures info_object refl refl)

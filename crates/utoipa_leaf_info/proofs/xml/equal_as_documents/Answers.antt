@@ -1,5 +1,0 @@
-use Rattle.utoipa_leaf_info.proofs.SameXml.{same_xml}
-use Rattle.utoipa_leaf_info.proofs.xml.equal_as_documents.Goals as goal
-
-pub returns : goal.returns
-returns c = same_xml c.args.left.now c.args.right.now

@@ -1,3 +1,0 @@
-pub mod Example
-pub mod Info
-pub mod Xml

@@ -1,2 +1,0 @@
-pub mod ExternalDocs
-pub mod Tag

@@ -1,0 +1,5 @@
+pub mod Counts
+mod Mappings
+pub mod ReadFormats
+pub mod ReadTypes
+pub mod SameXml

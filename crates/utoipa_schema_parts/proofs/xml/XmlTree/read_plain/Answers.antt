@@ -1,0 +1,11 @@
+-- Written by tools/answers.py utoipa_schema_parts xml Xml
+use Rattle.std.proofs.Common.{refl, arith}
+use Rattle.utoipa_base.specs.Kinds.{xml_object}
+use Rattle.utoipa_base.proofs.RowLists.{passes_reads, reads_as}
+use Rattle.utoipa_schema_parts.proofs.xml.XmlTree.read_plain.Goals as goal
+
+pub returns : goal.returns
+returns c = passes_reads _ _ _ _ _ _ _ _ _ _ _ c.read_table_alone-from_residual.ensures.1 (c.in_Break-read_table_alone-name.ensures xml_object refl refl) (λ h. h) (omega arith) (omega arith)
+
+pub returns-2 : goal.returns-2
+returns-2 c = reads_as _ _ _ _ _ _ _ _ refl (c.in_Continue-read_table_alone-name.ensures xml_object refl refl)

@@ -1,0 +1,4 @@
+pub mod Discriminator
+pub mod Format
+pub mod Types
+pub mod Xml

@@ -1,0 +1,188 @@
+ghost use Rattle.std.specs.Prelude.{◌≡◌, ◌↔◌, refl, false, IsTrue};
+ghost use Rattle.utoipa_base.specs.Kinds.{named, xml_object};
+ghost use Rattle.utoipa_schema_parts.specs.Xml.{xml_doc};
+ghost use Rattle.utoipa_schema_parts.specs.contracts.xml.XmlPartialEq.TheImpl as derived;
+
+use serde_json::Value;
+use std::alloc::{AllocError, Global};
+use utoipa_base::{
+    ReadFault, Readings, Tree, clone_table_alone, read_table_alone, write_table_alone,
+};
+
+// The rows of an XML object, in the order of its member table: mark, member, field.
+macro_rules! xml_rows {
+    ($lines:ident!($($arguments:tt)*)) => {
+        $lines! {
+            $($arguments)*;
+            optional "name" name,
+            optional "namespace" namespace,
+            optional "prefix" prefix,
+            optional "nodeType" node_type,
+            optional "attribute" attribute,
+            optional "wrapped" wrapped,
+        }
+    };
+}
+
+/// An XML Object (OpenAPI 3.1, section 4.8.26): how a property is written in XML.
+#[derive(Debug, Drop, Eq, PartialEq)]
+pub struct Xml {
+    /// The name of the element or the attribute, in place of the property's name.
+    pub name: Option<String>,
+    /// An IRI of the namespace.
+    pub namespace: Option<String>,
+    /// The prefix of the name.
+    pub prefix: Option<String>,
+    /// The kind of XML node that the property is written as, from OpenAPI 3.2 on: the member `nodeType`.
+    pub node_type: Option<String>,
+    /// Whether the property is written as an attribute, in place of an element.
+    pub attribute: Option<bool>,
+    /// Whether the items of an array stand in an element of their own.
+    pub wrapped: Option<bool>,
+}
+
+impl Xml {
+    ghost use Rattle.utoipa_schema_parts.specs.Xml.{empty_xml, built_xml};
+
+    /// An XML object that says nothing. It is written `{}`.
+    pub fn new() -> Xml
+        ensures { result ≡ empty_xml }
+    {
+        Xml {
+            name: None,
+            namespace: None,
+            prefix: None,
+            node_type: None,
+            attribute: None,
+            wrapped: None,
+        }
+    }
+
+    /// A builder that begins with an XML object that says nothing.
+    pub fn builder() -> XmlBuilder
+        ensures { built_xml result ≡ empty_xml }
+    {
+        XmlBuilder::new()
+    }
+}
+
+impl Tree for Xml {
+    ghost use Rattle.utoipa_schema_parts.specs.Xml.{xml_doc, xml_of_kind};
+
+    ghost kind = { named xml_object };
+
+    ghost doc = { xml_doc };
+
+    ghost is_of_kind = { xml_of_kind };
+
+    fn read_plain(alloc: Global, tree: &Value, readings: &mut Readings) -> Result<Xml, ReadFault> {
+        xml_rows!(read_table_alone!(Xml, alloc, tree, readings))
+    }
+
+    fn to_value(&self, alloc: Global) -> Result<Value, AllocError> {
+        xml_rows!(write_table_alone!(self, alloc))
+    }
+
+    fn try_clone(&self, alloc: Global) -> Result<Xml, AllocError> {
+        xml_rows!(clone_table_alone!(Xml, self, alloc))
+    }
+}
+
+/// Builds an [`Xml`].
+#[derive(Debug, Drop)]
+pub struct XmlBuilder {
+    xml: Xml,
+}
+
+impl XmlBuilder {
+    ghost use Rattle.utoipa_schema_parts.specs.Xml.{empty_xml, built_xml};
+
+    /// Begins with an XML object that says nothing.
+    pub fn new() -> XmlBuilder
+        ensures { built_xml result ≡ empty_xml }
+    {
+        XmlBuilder { xml: Xml::new() }
+    }
+
+    /// Sets the name of the element or the attribute.
+    pub fn name(mut self, name: Option<String>) -> XmlBuilder
+        ensures { built_xml result ≡ record (built_xml self) { name = name } }
+    {
+        self.xml.name = name;
+        self
+    }
+
+    /// Sets the IRI of the namespace.
+    pub fn namespace(mut self, namespace: Option<String>) -> XmlBuilder
+        ensures { built_xml result ≡ record (built_xml self) { namespace = namespace } }
+    {
+        self.xml.namespace = namespace;
+        self
+    }
+
+    /// Sets the prefix of the name.
+    pub fn prefix(mut self, prefix: Option<String>) -> XmlBuilder
+        ensures { built_xml result ≡ record (built_xml self) { prefix = prefix } }
+    {
+        self.xml.prefix = prefix;
+        self
+    }
+
+    /// Sets the kind of XML node.
+    pub fn node_type(mut self, node_type: Option<String>) -> XmlBuilder
+        ensures { built_xml result ≡ record (built_xml self) { node_type = node_type } }
+    {
+        self.xml.node_type = node_type;
+        self
+    }
+
+    /// Sets whether the property is written as an attribute.
+    pub fn attribute(mut self, attribute: Option<bool>) -> XmlBuilder
+        ensures { built_xml result ≡ record (built_xml self) { attribute = attribute } }
+    {
+        self.xml.attribute = attribute;
+        self
+    }
+
+    /// Sets whether the items of an array stand in an element of their own.
+    pub fn wrapped(mut self, wrapped: Option<bool>) -> XmlBuilder
+        ensures { built_xml result ≡ record (built_xml self) { wrapped = wrapped } }
+    {
+        self.xml.wrapped = wrapped;
+        self
+    }
+
+    /// The XML object that was built.
+    pub fn build(self) -> Xml
+        ensures { result ≡ built_xml self }
+    {
+        self.xml
+    }
+}
+
+impl From<Xml> for XmlBuilder {
+    ghost use Rattle.utoipa_schema_parts.specs.Xml.{built_xml};
+
+    ghost from_gives = { λ xml builder. built_xml builder ≡ xml };
+
+    fn from(xml: Xml) -> XmlBuilder {
+        XmlBuilder { xml }
+    }
+}
+
+impl From<XmlBuilder> for Xml {
+    ghost use Rattle.utoipa_schema_parts.specs.Xml.{built_xml};
+
+    ghost from_gives = { λ builder xml. xml ≡ built_xml builder };
+
+    fn from(builder: XmlBuilder) -> Xml {
+        builder.build()
+    }
+}
+
+/// `==` is equality: it holds exactly where two XML objects are one document.
+///
+/// A caller learns the law by the call, which does nothing.
+pub fn equal_as_documents(left: &Xml, right: &Xml)
+    ensures { IsTrue (derived.ghosts.eq left.now right.now) ↔ (xml_doc left.now ≡ xml_doc right.now) }
+{}

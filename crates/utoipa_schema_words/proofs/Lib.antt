@@ -1,4 +1,0 @@
-pub mod Counts
-mod Mappings
-pub mod ReadFormats
-pub mod ReadTypes

@@ -1,3 +1,0 @@
-pub mod Discriminator
-pub mod Format
-pub mod Types
