@@ -5,7 +5,8 @@ ghost use Rattle.utoipa_base.specs.Kinds.{named, example_object};
 use serde_json::Value;
 use std::alloc::{AllocError, Global};
 use utoipa_base::{
-    Extensions, Place, ReadFault, Readings, Tree, clone_table, read_table, write_table,
+    Extensions, Place, ReadFault, Readings, Tree, clone_table, from_fields, read_table, row_names,
+    row_values, write_table,
 };
 
 // The rows of an example, in the order of its member table: mark, member, field.
@@ -61,11 +62,15 @@ impl Tree for Example {
         tree: &Value,
         readings: &mut Readings,
     ) -> Result<Example, ReadFault> {
-        example_rows!(read_table!(Example, alloc, tree, readings))
+        let names = example_rows!(row_names!());
+        let (fields, extensions) = read_table(alloc, tree, "Example", names, readings)?;
+        Ok(example_rows!(from_fields!(Example, fields, extensions)))
     }
 
     fn to_value(&self, alloc: Global) -> Result<Value, AllocError> {
-        example_rows!(write_table!(self, alloc))
+        let names = example_rows!(row_names!());
+        let values = example_rows!(row_values!(self));
+        write_table(alloc, names, &values, &self.extensions)
     }
 
     fn try_clone(&self, alloc: Global) -> Result<Example, AllocError> {

@@ -6,8 +6,8 @@ ghost use Rattle.utoipa_base.specs.WellFormed.{has_fraction};
 use serde_json::Value;
 use std::alloc::{AllocError, Global};
 use utoipa_base::{
-    Extensions, ReadFault, Readings, Same, Tree, clone_table, read_table, same_table,
-    table_has_fraction, write_table,
+    Extensions, ReadFault, Readings, Same, Tree, clone_table, from_fields, read_table, row_names,
+    row_values, same_table, table_has_fraction, write_table,
 };
 
 // The rows of external documentation, in the order of its member table: mark, member, field.
@@ -95,11 +95,15 @@ impl Tree for ExternalDocs {
         tree: &Value,
         readings: &mut Readings,
     ) -> Result<ExternalDocs, ReadFault> {
-        external_docs_rows!(read_table!(ExternalDocs, alloc, tree, readings))
+        let names = external_docs_rows!(row_names!());
+        let (fields, extensions) = read_table(alloc, tree, "ExternalDocs", names, readings)?;
+        Ok(external_docs_rows!(from_fields!(ExternalDocs, fields, extensions)))
     }
 
     fn to_value(&self, alloc: Global) -> Result<Value, AllocError> {
-        external_docs_rows!(write_table!(self, alloc))
+        let names = external_docs_rows!(row_names!());
+        let values = external_docs_rows!(row_values!(self));
+        write_table(alloc, names, &values, &self.extensions)
     }
 
     fn try_clone(&self, alloc: Global) -> Result<ExternalDocs, AllocError> {

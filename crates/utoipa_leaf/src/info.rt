@@ -4,7 +4,10 @@ ghost use Rattle.utoipa_base.specs.Kinds.{named, info_object, contact_object, li
 
 use serde_json::Value;
 use std::alloc::{AllocError, Global};
-use utoipa_base::{Extensions, ReadFault, Readings, Tree, clone_table, read_table, write_table};
+use utoipa_base::{
+    Extensions, ReadFault, Readings, Tree, clone_table, from_fields, read_table, row_names,
+    row_values, write_table,
+};
 
 // The rows of an info object, in the order of its member table: mark, member, field.
 macro_rules! info_rows {
@@ -176,11 +179,15 @@ impl Tree for Contact {
         tree: &Value,
         readings: &mut Readings,
     ) -> Result<Contact, ReadFault> {
-        contact_rows!(read_table!(Contact, alloc, tree, readings))
+        let names = contact_rows!(row_names!());
+        let (fields, extensions) = read_table(alloc, tree, "Contact", names, readings)?;
+        Ok(contact_rows!(from_fields!(Contact, fields, extensions)))
     }
 
     fn to_value(&self, alloc: Global) -> Result<Value, AllocError> {
-        contact_rows!(write_table!(self, alloc))
+        let names = contact_rows!(row_names!());
+        let values = contact_rows!(row_values!(self));
+        write_table(alloc, names, &values, &self.extensions)
     }
 
     fn try_clone(&self, alloc: Global) -> Result<Contact, AllocError> {
@@ -202,11 +209,15 @@ impl Tree for License {
         tree: &Value,
         readings: &mut Readings,
     ) -> Result<License, ReadFault> {
-        license_rows!(read_table!(License, alloc, tree, readings))
+        let names = license_rows!(row_names!());
+        let (fields, extensions) = read_table(alloc, tree, "License", names, readings)?;
+        Ok(license_rows!(from_fields!(License, fields, extensions)))
     }
 
     fn to_value(&self, alloc: Global) -> Result<Value, AllocError> {
-        license_rows!(write_table!(self, alloc))
+        let names = license_rows!(row_names!());
+        let values = license_rows!(row_values!(self));
+        write_table(alloc, names, &values, &self.extensions)
     }
 
     fn try_clone(&self, alloc: Global) -> Result<License, AllocError> {
@@ -224,11 +235,15 @@ impl Tree for Info {
     ghost is_of_kind = { info_of_kind };
 
     fn read_plain(alloc: Global, tree: &Value, readings: &mut Readings) -> Result<Info, ReadFault> {
-        info_rows!(read_table!(Info, alloc, tree, readings))
+        let names = info_rows!(row_names!());
+        let (fields, extensions) = read_table(alloc, tree, "Info", names, readings)?;
+        Ok(info_rows!(from_fields!(Info, fields, extensions)))
     }
 
     fn to_value(&self, alloc: Global) -> Result<Value, AllocError> {
-        info_rows!(write_table!(self, alloc))
+        let names = info_rows!(row_names!());
+        let values = info_rows!(row_values!(self));
+        write_table(alloc, names, &values, &self.extensions)
     }
 
     fn try_clone(&self, alloc: Global) -> Result<Info, AllocError> {

@@ -8,8 +8,8 @@ use serde_json::Value;
 use std::alloc::{AllocError, Global};
 use std::collections::BTreeMap;
 use utoipa_base::{
-    Extensions, ReadFault, Readings, Same, Tree, clone_table, list_if_any, read_table, same_table,
-    table_has_fraction, write_table,
+    Extensions, ReadFault, Readings, Same, Tree, clone_table, from_fields, list_if_any, read_table,
+    row_names, row_values, same_table, table_has_fraction, write_table,
 };
 
 // The rows of a server, in the order of its member table: mark, member, field.
@@ -150,11 +150,15 @@ impl Tree for ServerVariable {
         tree: &Value,
         readings: &mut Readings,
     ) -> Result<ServerVariable, ReadFault> {
-        server_variable_rows!(read_table!(ServerVariable, alloc, tree, readings))
+        let names = server_variable_rows!(row_names!());
+        let (fields, extensions) = read_table(alloc, tree, "ServerVariable", names, readings)?;
+        Ok(server_variable_rows!(from_fields!(ServerVariable, fields, extensions)))
     }
 
     fn to_value(&self, alloc: Global) -> Result<Value, AllocError> {
-        server_variable_rows!(write_table!(self, alloc))
+        let names = server_variable_rows!(row_names!());
+        let values = server_variable_rows!(row_values!(self));
+        write_table(alloc, names, &values, &self.extensions)
     }
 
     fn try_clone(&self, alloc: Global) -> Result<ServerVariable, AllocError> {
@@ -176,11 +180,15 @@ impl Tree for Server {
         tree: &Value,
         readings: &mut Readings,
     ) -> Result<Server, ReadFault> {
-        server_rows!(read_table!(Server, alloc, tree, readings))
+        let names = server_rows!(row_names!());
+        let (fields, extensions) = read_table(alloc, tree, "Server", names, readings)?;
+        Ok(server_rows!(from_fields!(Server, fields, extensions)))
     }
 
     fn to_value(&self, alloc: Global) -> Result<Value, AllocError> {
-        server_rows!(write_table!(self, alloc))
+        let names = server_rows!(row_names!());
+        let values = server_rows!(row_values!(self));
+        write_table(alloc, names, &values, &self.extensions)
     }
 
     fn try_clone(&self, alloc: Global) -> Result<Server, AllocError> {

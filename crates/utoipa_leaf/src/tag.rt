@@ -7,8 +7,8 @@ use crate::external_docs::ExternalDocs;
 use serde_json::Value;
 use std::alloc::{AllocError, Global};
 use utoipa_base::{
-    Extensions, ReadFault, Readings, Same, Tree, clone_table, read_table, same_table,
-    table_has_fraction, write_table,
+    Extensions, ReadFault, Readings, Same, Tree, clone_table, from_fields, read_table, row_names,
+    row_values, same_table, table_has_fraction, write_table,
 };
 
 // The rows of a tag, in the order of its member table: mark, member, field.
@@ -108,11 +108,15 @@ impl Tree for Tag {
     ghost is_of_kind = { tag_of_kind };
 
     fn read_plain(alloc: Global, tree: &Value, readings: &mut Readings) -> Result<Tag, ReadFault> {
-        tag_rows!(read_table!(Tag, alloc, tree, readings))
+        let names = tag_rows!(row_names!());
+        let (fields, extensions) = read_table(alloc, tree, "Tag", names, readings)?;
+        Ok(tag_rows!(from_fields!(Tag, fields, extensions)))
     }
 
     fn to_value(&self, alloc: Global) -> Result<Value, AllocError> {
-        tag_rows!(write_table!(self, alloc))
+        let names = tag_rows!(row_names!());
+        let values = tag_rows!(row_values!(self));
+        write_table(alloc, names, &values, &self.extensions)
     }
 
     fn try_clone(&self, alloc: Global) -> Result<Tag, AllocError> {

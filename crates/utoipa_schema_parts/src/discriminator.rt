@@ -6,7 +6,10 @@ ghost use Rattle.utoipa_base.specs.Kinds.{named, discriminator_object};
 use serde_json::Value;
 use std::alloc::{AllocError, Global};
 use std::collections::BTreeMap;
-use utoipa_base::{Extensions, ReadFault, Readings, Tree, clone_table, read_table, write_table};
+use utoipa_base::{
+    Extensions, ReadFault, Readings, Tree, clone_table, from_fields, read_table, row_names,
+    row_values, write_table,
+};
 
 // The rows of a discriminator, in the order of its member table: mark, member, field.
 macro_rules! discriminator_rows {
@@ -83,11 +86,15 @@ impl Tree for Discriminator {
         tree: &Value,
         readings: &mut Readings,
     ) -> Result<Discriminator, ReadFault> {
-        discriminator_rows!(read_table!(Discriminator, alloc, tree, readings))
+        let names = discriminator_rows!(row_names!());
+        let (fields, extensions) = read_table(alloc, tree, "Discriminator", names, readings)?;
+        Ok(discriminator_rows!(from_fields!(Discriminator, fields, extensions)))
     }
 
     fn to_value(&self, alloc: Global) -> Result<Value, AllocError> {
-        discriminator_rows!(write_table!(self, alloc))
+        let names = discriminator_rows!(row_names!());
+        let values = discriminator_rows!(row_values!(self));
+        write_table(alloc, names, &values, &self.extensions)
     }
 
     fn try_clone(&self, alloc: Global) -> Result<Discriminator, AllocError> {

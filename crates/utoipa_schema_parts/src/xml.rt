@@ -6,7 +6,8 @@ ghost use Rattle.utoipa_schema_parts.specs.contracts.xml.XmlPartialEq.TheImpl as
 use serde_json::Value;
 use std::alloc::{AllocError, Global};
 use utoipa_base::{
-    ReadFault, Readings, Tree, clone_table_alone, read_table_alone, write_table_alone,
+    ReadFault, Readings, Tree, clone_table_alone, from_fields_alone, read_table_alone, row_names,
+    row_values, write_table_alone,
 };
 
 // The rows of an XML object, in the order of its member table: mark, member, field.
@@ -76,11 +77,15 @@ impl Tree for Xml {
     ghost is_of_kind = { xml_of_kind };
 
     fn read_plain(alloc: Global, tree: &Value, readings: &mut Readings) -> Result<Xml, ReadFault> {
-        xml_rows!(read_table_alone!(Xml, alloc, tree, readings))
+        let names = xml_rows!(row_names!());
+        let fields = read_table_alone(alloc, tree, "Xml", names, readings)?;
+        Ok(xml_rows!(from_fields_alone!(Xml, fields)))
     }
 
     fn to_value(&self, alloc: Global) -> Result<Value, AllocError> {
-        xml_rows!(write_table_alone!(self, alloc))
+        let names = xml_rows!(row_names!());
+        let values = xml_rows!(row_values!(self));
+        write_table_alone(alloc, names, &values)
     }
 
     fn try_clone(&self, alloc: Global) -> Result<Xml, AllocError> {

@@ -4,8 +4,8 @@ use Rattle.utoipa_base.specs.Kinds.{server_object}
 use Rattle.utoipa_base.proofs.RowLists.{passes_reads, reads_as}
 use Rattle.utoipa_leaf.proofs.server.ServerTree.read_plain.Goals as goal
 
-pub returns : goal.returns
-returns c = passes_reads _ _ _ _ _ _ _ _ _ _ _ c.read_table-from_residual.ensures.1 (c.in_Break-read_table-url.ensures server_object refl refl) (λ h. h) (omega arith) (omega arith)
+pub returns-in_err-fields : goal.returns-in_err-fields
+returns-in_err-fields c = passes_reads _ _ _ _ _ _ _ _ _ _ _ c.from_residual.ensures.1 (c.in_err-fields.ensures server_object refl refl) (λ h. h) (omega arith) (omega arith)
 
-pub returns-2 : goal.returns-2
-returns-2 c = reads_as _ _ _ _ _ _ _ _ refl (c.in_Continue-read_table-url.ensures server_object refl refl)
+pub returns : goal.returns
+returns c = reads_as _ _ _ _ _ _ _ _ refl (c.in_ok-fields.ensures server_object refl refl)

@@ -1,15 +1,7 @@
 -- Written by tools/answers.py utoipa_leaf tag Tag
+use Rattle.std.proofs.Common.{refl}
 use Rattle.utoipa_base.specs.Kinds.{tag_object}
-use Rattle.utoipa_base.proofs.ByRows.{table_written, rows-cons, rows-nil}
 use Rattle.utoipa_leaf.proofs.tag.TagTree.to_value.Goals as goal
 
-pub returns-8 : goal.returns-8
-returns-8 c =
-    table_written tag_object _ _ _ _ c.in_Continue-write_table-write_table.ensures
-    (rows-cons _ _ _ _ _ _ _ c.in_Continue-write_table-write_table-2.ensures.ok
-    (rows-cons _ _ _ _ _ _ _ c.in_Continue-write_table-write_table-3.ensures.ok
-    (rows-cons _ _ _ _ _ _ _ c.in_Continue-write_table-write_table-4.ensures.ok
-    (rows-cons _ _ _ _ _ _ _ c.in_Continue-write_table-write_table-5.ensures.ok
-    (rows-cons _ _ _ _ _ _ _ c.in_Continue-write_table-write_table-6.ensures.ok
-    (rows-cons _ _ _ _ _ _ _ c.in_Continue-write_table-write_table-7.ensures.ok
-    (rows-nil _)))))))
+pub returns : goal.returns
+returns c = c.write_table.ensures tag_object refl

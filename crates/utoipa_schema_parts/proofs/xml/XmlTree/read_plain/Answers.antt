@@ -4,8 +4,8 @@ use Rattle.utoipa_base.specs.Kinds.{xml_object}
 use Rattle.utoipa_base.proofs.RowLists.{passes_reads, reads_as}
 use Rattle.utoipa_schema_parts.proofs.xml.XmlTree.read_plain.Goals as goal
 
-pub returns : goal.returns
-returns c = passes_reads _ _ _ _ _ _ _ _ _ _ _ c.read_table_alone-from_residual.ensures.1 (c.in_Break-read_table_alone-name.ensures xml_object refl refl) (λ h. h) (omega arith) (omega arith)
+pub returns-in_err-fields : goal.returns-in_err-fields
+returns-in_err-fields c = passes_reads _ _ _ _ _ _ _ _ _ _ _ c.from_residual.ensures.1 (c.in_err-fields.ensures xml_object refl refl) (λ h. h) (omega arith) (omega arith)
 
-pub returns-2 : goal.returns-2
-returns-2 c = reads_as _ _ _ _ _ _ _ _ refl (c.in_Continue-read_table_alone-name.ensures xml_object refl refl)
+pub returns : goal.returns
+returns c = reads_as _ _ _ _ _ _ _ _ refl (c.in_ok-fields.ensures xml_object refl refl)
