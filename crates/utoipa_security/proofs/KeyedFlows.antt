@@ -1,5 +1,5 @@
 -- Flows under their keys, beside the members that they are read from and written as.
-use Rattle.std.proofs.Common.{◌≡◌, ℕ, ◌+◌, List, [], ◌∷◌, ◌++◌, Option, Some, None, option_map, option_and_then, refl, sym, ap, ◌∙◌, arith, String, Global, BTreeMap, Result, Ok, Err, IfOk, ◌<◌, ◌≤◌, Ordering, Less, Equal, Greater, string_bytes, string_cmp, nat_cmp}
+use Rattle.std.proofs.Common.{◌≡◌, ℕ, ◌+◌, List, [], ◌∷◌, ◌++◌, Option, Some, None, option_map, option_and_then, refl, sym, ap, ◌∙◌, arith, String, Global, BTreeMap, Ok, Ordering, Less, Equal, Greater, string_bytes, string_cmp, nat_cmp}
 use Rattle.std.specs.BTreeMap.{insert_entry}
 use Rattle.std.specs.Cmp.Lexicographic.{slice_cmp}
 use Rattle.std.specs.Ordering.{match_ordering}
@@ -7,10 +7,10 @@ use Rattle.serde_json.specs.Data.{Data, null, boolean, number, string, array, ob
 use Rattle.serde_json.specs.Find.{as_object}
 use Rattle.serde_json.specs.View.{view, members_view}
 use Rattle.serde_json.proofs.Views.{Entry}
-use Rattle.utoipa_base.specs.declared.fault.ReadFault.{ReadFault}
 use Rattle.utoipa_base.specs.Docs.{Doc, map_doc, Entries, no_entries, entries_of_list}
 use Rattle.utoipa_base.specs.Kinds.{flows}
 use Rattle.utoipa_base.specs.Reading.{reader, parts, read, read_flows, both_entries}
+use Rattle.utoipa_base.specs.Reads.{Reads}
 use Rattle.utoipa_base.specs.Values.{schema_count, docs_schema_count, entries_schema_count}
 use Rattle.utoipa_base.specs.Views.{text_of, option_of, pairs_of}
 use Rattle.utoipa_base.specs.Writing.{write}
@@ -105,10 +105,10 @@ pub flows_uncounted : (m : BTreeMap (String Global) Flow) → schema_count (flow
 unfolding schema_count
 flows_uncounted m = entries_uncounted m.entries
 
--- a counter that stays counts no less than the schemas of flows
-pub flows_least : (r : Result (BTreeMap (String Global) Flow) ReadFault) (n most : ℕ) → IfOk r (λ m. n < most → n + schema_count (flows_doc m) ≤ n)
-flows_least (Ok m) n most = λ below. omega (arith, flows_uncounted m)
-flows_least (Err e) n most = tt
+-- flows are read while the counter stays
+pub flows_read_uncounted : {A : Type 0} (f : A → Doc) (v : A) (m : BTreeMap (String Global) Flow) (o : Option Doc) (n most : ℕ) → f v ≡ flows_doc m → o ≡ Some (flows_doc m) → Reads {A = A} o f (Ok v) n n most
+flows_read_uncounted f v m o n most same is =
+    record { ok = is ∙ ap Some (sym same); err = tt; grows = omega arith; at_most = omega arith; at_least = λ below. omega (arith, ap schema_count same, flows_uncounted m) }
 
 -- ---- flows that are put under their keys
 

@@ -150,4 +150,4 @@ unfolding schema_count
 schema_count-tagged name w d = refl
 
 -- schemes and their words
-pub ruleset by_tags = (get-no_object, write-tagged, schema_count-tagged, scheme_reads-named, scheme_reads-api_key, the_lemmas)
+pub ruleset by_scheme_types = (get-no_object, write-tagged, schema_count-tagged, scheme_reads-named, scheme_reads-api_key, the_lemmas)
