@@ -1,4 +1,3 @@
-pub mod Choosing
 pub mod KeyedFlows
 pub mod Requirement
 pub mod SchemeTypes

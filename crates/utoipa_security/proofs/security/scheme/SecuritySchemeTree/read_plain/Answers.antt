@@ -1,7 +1,6 @@
 use Rattle.std.proofs.Common.{arith}
 use Rattle.serde_json.specs.View.{view}
-use Rattle.utoipa_security.proofs.Choosing.{not_read, scheme_reads_as, scheme_of_no_type}
-use Rattle.utoipa_security.proofs.SchemeTypes.{scheme_absent}
+use Rattle.utoipa_security.proofs.SchemeTypes.{not_read, scheme_reads, scheme_of_no_type, scheme_absent}
 use Rattle.utoipa_security.proofs.security.scheme.SecuritySchemeTree.read_plain.Goals as goal
 
 pub returns-in_err-word : goal.returns-in_err-word
@@ -13,4 +12,4 @@ returns-in-None c =
 
 pub returns-in-Some : goal.returns-in-Some
 returns-in-Some c =
-    scheme_reads_as c.read_scheme.result (view c.args.tree.now) _ c.in-Some.kind _ _ _ c.in_ok-word.ensures.ok c.in-Some.ensures c.read_scheme.ensures.word c.read_scheme.ensures.reads
+    scheme_reads c.read_scheme.result (view c.args.tree.now) _ c.in-Some.kind _ _ _ c.in_ok-word.ensures.ok c.in-Some.ensures c.read_scheme.ensures.word c.read_scheme.ensures.reads
