@@ -6,7 +6,7 @@ ghost use Rattle.utoipa_base.specs.Vocabularies.{with_text};
 ghost use Rattle.utoipa_security.specs.ApiKey.{api_key_value_doc, api_key_doc, api_key_of_kind, key_place_text, every_key_place};
 
 use crate::security::row_lists::{clone_rows, read_rows, write_rows};
-use crate::security::scheme_type::{read_scheme_type, with_scheme_type};
+use crate::security::scheme_type::{read_type, with_type};
 use serde_json::Value;
 use std::alloc::{AllocError, Global};
 use utoipa_base::{Deprecated, Extensions, ReadFault, Readings, Tree};
@@ -151,7 +151,7 @@ impl Tree for ApiKey {
         tree: &Value,
         readings: &mut Readings,
     ) -> Result<ApiKey, ReadFault> {
-        let word = read_scheme_type(tree, "in", "ApiKey")?;
+        let word = read_type(tree, "in", "ApiKey")?;
         match key_place(word) {
             Some(place) => {
                 let value = ApiKeyValue::read_plain(alloc, tree, readings)?;
@@ -163,19 +163,9 @@ impl Tree for ApiKey {
 
     fn to_value(&self, alloc: Global) -> Result<Value, AllocError> {
         match self {
-            ApiKey::Header(value) => with_scheme_type(
-                alloc,
-                "in",
-                "header",
-                value.to_value(alloc)?,
-            ),
-            ApiKey::Query(value) => with_scheme_type(alloc, "in", "query", value.to_value(alloc)?),
-            ApiKey::Cookie(value) => with_scheme_type(
-                alloc,
-                "in",
-                "cookie",
-                value.to_value(alloc)?,
-            ),
+            ApiKey::Header(value) => with_type(alloc, "in", "header", value.to_value(alloc)?),
+            ApiKey::Query(value) => with_type(alloc, "in", "query", value.to_value(alloc)?),
+            ApiKey::Cookie(value) => with_type(alloc, "in", "cookie", value.to_value(alloc)?),
         }
     }
 

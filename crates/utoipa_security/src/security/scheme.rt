@@ -13,7 +13,7 @@ use crate::security::api_key::ApiKey;
 use crate::security::http::Http;
 use crate::security::oauth2::OAuth2;
 use crate::security::open_id_connect::OpenIdConnect;
-use crate::security::scheme_type::{read_scheme_type, with_scheme_type};
+use crate::security::scheme_type::{read_type, with_type};
 use serde_json::Value;
 use std::alloc::{AllocError, Global};
 use utoipa_base::table::{OptionalField, read_table};
@@ -139,7 +139,7 @@ impl Tree for SecurityScheme {
         tree: &Value,
         readings: &mut Readings,
     ) -> Result<SecurityScheme, ReadFault> {
-        let word = read_scheme_type(tree, "type", "SecurityScheme")?;
+        let word = read_type(tree, "type", "SecurityScheme")?;
         match scheme_type(word) {
             Some(kind) => read_scheme(kind, alloc, tree, readings),
             None => Err(ReadFault::Word("SecurityScheme")),
@@ -149,19 +149,16 @@ impl Tree for SecurityScheme {
     fn to_value(&self, alloc: Global) -> Result<Value, AllocError> {
         match self {
             SecurityScheme::OAuth2(scheme) => {
-                with_scheme_type(alloc, "type", "oauth2", scheme.to_value(alloc)?)
+                with_type(alloc, "type", "oauth2", scheme.to_value(alloc)?)
             }
             SecurityScheme::ApiKey(scheme) => {
-                with_scheme_type(alloc, "type", "apiKey", scheme.to_value(alloc)?)
+                with_type(alloc, "type", "apiKey", scheme.to_value(alloc)?)
             }
-            SecurityScheme::Http(scheme) => with_scheme_type(
-                alloc,
-                "type",
-                "http",
-                scheme.to_value(alloc)?,
-            ),
+            SecurityScheme::Http(scheme) => {
+                with_type(alloc, "type", "http", scheme.to_value(alloc)?)
+            }
             SecurityScheme::OpenIdConnect(scheme) => {
-                with_scheme_type(alloc, "type", "openIdConnect", scheme.to_value(alloc)?)
+                with_type(alloc, "type", "openIdConnect", scheme.to_value(alloc)?)
             }
             SecurityScheme::MutualTls {
                 description,
@@ -169,7 +166,7 @@ impl Tree for SecurityScheme {
                 extensions,
             } => {
                 let written = mutual_tls_value(alloc, description, deprecated, extensions)?;
-                with_scheme_type(alloc, "type", "mutualTLS", written)
+                with_type(alloc, "type", "mutualTLS", written)
             }
         }
     }

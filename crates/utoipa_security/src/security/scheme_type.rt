@@ -15,7 +15,7 @@ use utoipa_base::ReadFault;
 /// Answers `Kind` with the name of the type where the tree is no object or the member is no text, and `Missing` where
 /// there is no such member.
 #[tactic(auto, using(crate::proofs::SchemeTypes::by_scheme_types))]
-pub(crate) fn read_scheme_type<'a>(
+pub(crate) fn read_type<'a>(
     tree: &'a Value,
     name: &'static str,
     wanted: &'static str,
@@ -35,7 +35,7 @@ pub(crate) fn read_scheme_type<'a>(
 
 /// The written members of a scheme, with the member whose word says of which type it is. Fails where memory runs out.
 #[tactic(auto, using(crate::proofs::SchemeTypes::by_scheme_types))]
-pub(crate) fn with_scheme_type(
+pub(crate) fn with_type(
     alloc: Global,
     name: &'static str,
     word: &'static str,
