@@ -6,13 +6,13 @@ use Rattle.utoipa_base.specs.WellFormed.{has_fraction, docs_have_fraction, entri
 use Rattle.utoipa_security.specs.Requirement.{ScopeNames, requirement_doc}
 use Rattle.utoipa_security.specs.declared.security.requirement.SecurityRequirement.{SecurityRequirement}
 
--- nor do names of scopes
+-- names of scopes hold none
 scopes_whole : (names : List (String Global)) → docs_have_fraction (docs_of (map text_of names)) ≡ false
 unfolding docs_have_fraction has_fraction
 scopes_whole [] = refl
 scopes_whole (name ∷ names) = scopes_whole names
 
--- nor do the scopes of each scheme
+-- nor do the scopes of schemes
 entries_whole : (es : List (String Global × ScopeNames)) → entries_have_fraction (entries_of_list (pairs_of (list_of_docs text_of) es)) ≡ false
 unfolding entries_have_fraction has_fraction
 entries_whole [] = refl

@@ -18,7 +18,7 @@ use Rattle.utoipa_base.specs.declared.fault.ReadFault.{ReadFault}
 use Rattle.utoipa_base.proofs.ByWords.{found_has}
 use Rattle.utoipa_base.proofs.RowLists.{passes_reads}
 use Rattle.utoipa_security.specs.ApiKey.{api_key_doc, key_place_text, every_key_place}
-use Rattle.utoipa_security.specs.Schemes.{scheme_word, scheme_object, scheme_doc, scheme_type_text, scheme_kind, every_scheme_type}
+use Rattle.utoipa_security.specs.Schemes.{type_of, scheme_object, scheme_doc, scheme_type_text, scheme_kind, every_scheme_type}
 use Rattle.utoipa_security.specs.declared.security.api_key.ApiKey.{ApiKey}
 use Rattle.utoipa_security.specs.declared.security.api_key.KeyPlace.{KeyPlace}
 use Rattle.utoipa_security.specs.declared.security.scheme.SecurityScheme.{SecurityScheme}
@@ -186,15 +186,15 @@ tagged_reads f g name word v w o p old new most same is reads =
       at_least = λ below. omega (arith, ap schema_count same, schema_count-tagged name word (f v), reads.at_least below);
     }
 
--- the members of the type of its word are read as a scheme
+-- the members of the type that a word names are read as a scheme
 pub scheme_reads : (r : Result SecurityScheme ReadFault) (d : Data) (w : List ℕ) (t : SchemeType) (old new most : ℕ) → word_at (codes "type") d ≡ Some w → Some t ≡ with_text scheme_type_text every_scheme_type w
-    → IfOk r (λ s. scheme_word s ≡ scheme_type_text t) → Reads (read (scheme_kind t) d) scheme_object r old new most → Reads (read security_scheme d) scheme_doc r old new most
-scheme_reads (Err e) d w t old new most is type worded reads =
-    passes_reads scheme_object scheme_doc (Err e) e _ _ old old new most most refl reads (λ none. scheme_read d w t None is type none) (omega arith) (omega arith)
-scheme_reads (Ok s) d w t old new most is type worded reads =
-    let named : w ≡ scheme_word s = found_has scheme_type_text every_scheme_type w t (sym type) ∙ sym worded in
-    tagged_reads scheme_object scheme_doc (codes "type") (scheme_word s) s s _ _ old new most refl
-    (λ fits. scheme_read d w t _ is type fits ∙ ap (λ v. Some (tagged_doc (codes "type") v (scheme_object s))) named) reads
+    → IfOk r (λ s. type_of s ≡ t) → Reads (read (scheme_kind t) d) scheme_object r old new most → Reads (read security_scheme d) scheme_doc r old new most
+scheme_reads (Err e) d w t old new most is chose typed reads =
+    passes_reads scheme_object scheme_doc (Err e) e _ _ old old new most most refl reads (λ none. scheme_read d w t None is chose none) (omega arith) (omega arith)
+scheme_reads (Ok s) d w t old new most is chose typed reads =
+    let word : w ≡ scheme_type_text (type_of s) = found_has scheme_type_text every_scheme_type w t (sym chose) ∙ ap scheme_type_text (sym typed) in
+    tagged_reads scheme_object scheme_doc (codes "type") (scheme_type_text (type_of s)) s s _ _ old new most refl
+    (λ fits. scheme_read d w t _ is chose fits ∙ ap (λ v. Some (tagged_doc (codes "type") v (scheme_object s))) word) reads
 
 -- schemes and their words
 pub ruleset by_scheme_types = (get-no_object, write-tagged, schema_count-tagged, the_lemmas)

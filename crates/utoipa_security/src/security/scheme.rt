@@ -1,5 +1,5 @@
 //! Security schemes of every type.
-ghost use Rattle.std.specs.Prelude.{◌≡◌, codes, refl, false, IfOk};
+ghost use Rattle.std.specs.Prelude.{◌≡◌, IfOk};
 ghost use Rattle.serde_json.specs.View.{view};
 ghost use Rattle.utoipa_base.specs.Kinds.{named, security_scheme, mutual_tls_scheme};
 ghost use Rattle.utoipa_base.specs.Reading.{read};
@@ -7,7 +7,7 @@ ghost use Rattle.utoipa_base.specs.Reads.{Reads};
 ghost use Rattle.utoipa_base.specs.Values.{values};
 ghost use Rattle.utoipa_base.specs.Vocabularies.{with_text};
 ghost use Rattle.utoipa_base.specs.Writing.{write};
-ghost use Rattle.utoipa_security.specs.Schemes.{mutual_tls_doc, scheme_word, scheme_object, scheme_doc, scheme_of_kind, scheme_type_text, scheme_kind, every_scheme_type};
+ghost use Rattle.utoipa_security.specs.Schemes.{mutual_tls_doc, type_of, scheme_object, scheme_doc, scheme_of_kind, scheme_type_text, scheme_kind, every_scheme_type};
 
 use crate::security::api_key::ApiKey;
 use crate::security::http::Http;
@@ -72,7 +72,7 @@ fn read_mutual_tls(
     tree: &Value,
     readings: &mut Readings,
 ) -> Result<SecurityScheme, ReadFault>
-    ensures word { IfOk result (λ s. scheme_word s ≡ codes "mutualTLS") }
+    ensures of_type { IfOk result (λ s. type_of s ≡ SchemeType.MutualTls) }
     ensures reads { Reads (read (named mutual_tls_scheme) (view tree.now)) scheme_object result
         readings.old readings.new (values (view tree.now)) }
 {
@@ -107,7 +107,7 @@ fn read_scheme(
     tree: &Value,
     readings: &mut Readings,
 ) -> Result<SecurityScheme, ReadFault>
-    ensures word { IfOk result (λ s. scheme_word s ≡ scheme_type_text kind) }
+    ensures of_type { IfOk result (λ s. type_of s ≡ kind) }
     ensures reads { Reads (read (scheme_kind kind) (view tree.now)) scheme_object result
         readings.old readings.new (values (view tree.now)) }
 {

@@ -12,4 +12,4 @@ returns-in-None c =
 
 pub returns-in-Some : goal.returns-in-Some
 returns-in-Some c =
-    scheme_reads c.read_scheme.result (view c.args.tree.now) _ c.in-Some.kind _ _ _ c.in_ok-word.ensures.ok c.in-Some.ensures c.read_scheme.ensures.word c.read_scheme.ensures.reads
+    scheme_reads c.read_scheme.result (view c.args.tree.now) _ c.in-Some.kind _ _ _ c.in_ok-word.ensures.ok c.in-Some.ensures c.read_scheme.ensures.of_type c.read_scheme.ensures.reads
