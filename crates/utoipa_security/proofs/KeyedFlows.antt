@@ -1,5 +1,5 @@
 -- Flows under their keys, beside the members that they are read from and written as.
-use Rattle.std.proofs.Common.{◌≡◌, ℕ, ◌+◌, List, [], ◌∷◌, ◌++◌, Option, Some, None, option_map, option_and_then, refl, sym, ap, ◌∙◌, subst, append_assoc, arith, String, Global, BTreeMap, Ok, Ordering, Less, Equal, Greater, string_bytes, string_cmp, nat_cmp}
+use Rattle.std.proofs.Common.{◌≡◌, ℕ, List, [], ◌∷◌, ◌++◌, Option, Some, None, option_map, option_and_then, refl, sym, ap, ◌∙◌, subst, append_assoc, arith, String, Global, BTreeMap, Ok, Ordering, Less, Equal, Greater, string_bytes, string_cmp, nat_cmp}
 use Rattle.std.proofs.lemmas.List.{map-append}
 use Rattle.std.specs.BTreeMap.{insert_entry}
 use Rattle.std.specs.Cmp.Lexicographic.{slice_cmp}

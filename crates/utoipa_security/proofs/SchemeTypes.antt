@@ -1,5 +1,5 @@
 -- The member whose word says of which type a scheme is, or where an API key stands.
-use Rattle.std.proofs.Common.{◌≡◌, ◌<◌, ◌≤◌, ◌+◌, ℕ, List, [], ◌∷◌, Bool, true, false, Option, Some, None, option_map, option_and_then, is_some, if◌then◌else◌, map, refl, sym, ap, ◌∙◌, arith, Result, Ok, Err, IfOk, codes}
+use Rattle.std.proofs.Common.{◌≡◌, ℕ, List, [], ◌∷◌, Bool, true, false, Option, Some, None, option_map, option_and_then, is_some, if◌then◌else◌, map, refl, sym, ap, ◌∙◌, arith, Result, Ok, Err, IfOk, codes}
 use Rattle.std.specs.Result.{IsErrAnd}
 use Rattle.std.specs.Str.{bytes_eq}
 use Rattle.serde_json.specs.Data.{Data, null, boolean, number, string, array, object, Members}
