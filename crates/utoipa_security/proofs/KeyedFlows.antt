@@ -1,20 +1,23 @@
 -- Flows under their keys, beside the members that they are read from and written as.
-use Rattle.std.proofs.Common.{◌≡◌, ℕ, ◌+◌, List, [], ◌∷◌, ◌++◌, Option, Some, None, option_map, option_and_then, refl, sym, ap, ◌∙◌, arith, String, Global, BTreeMap, Result, Ok, Err, IfOk, ◌<◌, ◌≤◌, Ordering, Less, Equal, Greater, string_bytes, string_cmp, nat_cmp}
+use Rattle.std.proofs.Common.{◌≡◌, ℕ, List, [], ◌∷◌, ◌++◌, Option, Some, None, option_map, option_and_then, refl, sym, ap, ◌∙◌, subst, append_assoc, arith, String, Global, BTreeMap, Ok, Ordering, Less, Equal, Greater, string_bytes, string_cmp, nat_cmp}
+use Rattle.std.proofs.lemmas.List.{map-append}
 use Rattle.std.specs.BTreeMap.{insert_entry}
 use Rattle.std.specs.Cmp.Lexicographic.{slice_cmp}
+use Rattle.std.specs.List.Sorted.{IsStrictlySortedBy}
+use Rattle.std.specs.Map.{keys_of}
 use Rattle.std.specs.Ordering.{match_ordering}
 use Rattle.serde_json.specs.Data.{Data, null, boolean, number, string, array, object}
 use Rattle.serde_json.specs.Find.{as_object}
 use Rattle.serde_json.specs.View.{view, members_view}
 use Rattle.serde_json.proofs.Views.{Entry}
-use Rattle.utoipa_base.specs.declared.fault.ReadFault.{ReadFault}
 use Rattle.utoipa_base.specs.Docs.{Doc, map_doc, Entries, no_entries, entries_of_list}
 use Rattle.utoipa_base.specs.Kinds.{flows}
 use Rattle.utoipa_base.specs.Reading.{reader, parts, read, read_flows, both_entries}
+use Rattle.utoipa_base.specs.Reads.{Reads}
 use Rattle.utoipa_base.specs.Values.{schema_count, docs_schema_count, entries_schema_count}
 use Rattle.utoipa_base.specs.Views.{text_of, option_of, pairs_of}
 use Rattle.utoipa_base.specs.Writing.{write}
-use Rattle.utoipa_base.proofs.Maps.{prepend_entries, prepend_entries-none, prepend_entries-some, prepend_entries-append}
+use Rattle.utoipa_base.proofs.Maps.{texts, insert_last, prepend_entries, prepend_entries-none, prepend_entries-some, prepend_entries-append}
 use Rattle.utoipa_security.specs.OAuth.{flow_object, flow_view, flow_key, flow_read, flows_doc, by_key, put_flows}
 use Rattle.utoipa_security.specs.declared.security.flows.Flow.{Flow}
 use Rattle.utoipa_security.specs.declared.security.flows.Flow.TheVariants.{Implicit, Password, ClientCredentials, AuthorizationCode, DeviceAuthorization}
@@ -64,6 +67,21 @@ flows_read-end ds o before = before ∙ ap (prepend_entries ds) flows_read-nil �
 pub flows_by_entries : (d : Data) (es : List Entry) (o : Option Entries) → Some (members_view es) ≡ as_object d → flows_read es ≡ o → read flows d ≡ option_map map_doc o
 flows_by_entries d es o is read_as = read-flows d ∙ ap (option_and_then (λ ms. option_map map_doc (read_flows (parts ms)))) (sym is) ∙ ap (option_map map_doc) read_as
 
+-- ---- flows that are put under copies of the names of entries, one after the other
+
+-- one more: it comes last, under the name of the entry
+pub flows_next : {X : Type 0} (all done left : List (String Global × X)) (es fs : List (String Global × Flow)) (e : String Global × X) (more : List (String Global × X)) (name : String Global) (f : Flow) → all ≡ done ++ left → texts es ≡ texts done
+    → left ≡ e ∷ more → IsStrictlySortedBy string_cmp (keys_of all) → string_bytes name ≡ string_bytes e.0 → fs ≡ insert_entry string_cmp es name f
+    → (all ≡ (done ++ e ∷ []) ++ more) × (texts fs ≡ texts (done ++ e ∷ [])) × (pairs_of flow_view fs ≡ pairs_of flow_view es ++ (string_bytes e.0, flow_view f) ∷ [])
+flows_next all done left es fs e more name f split names rest ordered named put =
+    let whole : all ≡ done ++ e ∷ more = split ∙ ap (λ r. done ++ r) rest in
+    let last : fs ≡ es ++ (name, f) ∷ [] = put ∙ insert_last es done e more name f names (subst (λ r. IsStrictlySortedBy string_cmp (keys_of r)) whole ordered) named in
+    let same : texts es ++ string_bytes name ∷ [] ≡ texts done ++ string_bytes e.0 ∷ [] = ap (λ ts. ts ++ string_bytes name ∷ []) names ∙ ap (λ b. texts done ++ b ∷ []) named in (
+      whole ∙ sym (append_assoc done (e ∷ []) more),
+      ap texts last ∙ map-append _ es _ ∙ same ∙ sym (map-append _ done (e ∷ [])),
+      ap (pairs_of flow_view) last ∙ map-append _ es _ ∙ ap (λ b. pairs_of flow_view es ++ (b, flow_view f) ∷ []) named,
+    )
+
 -- ---- writing
 
 -- a flow is written as its members
@@ -105,10 +123,10 @@ pub flows_uncounted : (m : BTreeMap (String Global) Flow) → schema_count (flow
 unfolding schema_count
 flows_uncounted m = entries_uncounted m.entries
 
--- a counter that stays counts no less than the schemas of flows
-pub flows_least : (r : Result (BTreeMap (String Global) Flow) ReadFault) (n most : ℕ) → IfOk r (λ m. n < most → n + schema_count (flows_doc m) ≤ n)
-flows_least (Ok m) n most = λ below. omega (arith, flows_uncounted m)
-flows_least (Err e) n most = tt
+-- flows are read while the counter stays
+pub flows_read_uncounted : {A : Type 0} (f : A → Doc) (v : A) (m : BTreeMap (String Global) Flow) (o : Option Doc) (n most : ℕ) → f v ≡ flows_doc m → o ≡ Some (flows_doc m) → Reads {A = A} o f (Ok v) n n most
+flows_read_uncounted f v m o n most same is =
+    record { ok = is ∙ ap Some (sym same); err = tt; grows = omega arith; at_most = omega arith; at_least = λ below. omega (arith, ap schema_count same, flows_uncounted m) }
 
 -- ---- flows that are put under their keys
 

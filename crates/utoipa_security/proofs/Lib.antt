@@ -1,4 +1,4 @@
-pub mod Choosing
 pub mod KeyedFlows
+pub mod Requirement
+pub mod SchemeTypes
 pub mod Scopes
-pub mod Tags

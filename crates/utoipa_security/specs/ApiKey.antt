@@ -51,9 +51,9 @@ every_key_place = places.Header ∷ places.Query ∷ places.Cookie ∷ []
 
 -- an API key in its place as a document
 abbrev pub api_key_doc : ApiKey → Doc
-api_key_doc (made.Header v) = tagged_doc (codes "in") (codes "header") (api_key_value_doc v)
-api_key_doc (made.Query v) = tagged_doc (codes "in") (codes "query") (api_key_value_doc v)
-api_key_doc (made.Cookie v) = tagged_doc (codes "in") (codes "cookie") (api_key_value_doc v)
+api_key_doc (made.Header v) = tagged_doc (codes "in") (key_place_text places.Header) (api_key_value_doc v)
+api_key_doc (made.Query v) = tagged_doc (codes "in") (key_place_text places.Query) (api_key_value_doc v)
+api_key_doc (made.Cookie v) = tagged_doc (codes "in") (key_place_text places.Cookie) (api_key_value_doc v)
 
 -- an API key in its place is an API key
 pub api_key_of_kind : (k : ApiKey) → IsOf (api_key_doc k) (value_of api_key)

@@ -1,5 +1,5 @@
 -- The documents of OAuth flows under their keys, and of OAuth schemes.
-use Rattle.std.specs.Prelude.{◌≡◌, ℕ, List, [], ◌∷◌, Option, None, option_map, map, codes, refl, String, string_bytes}
+use Rattle.std.specs.Prelude.{◌≡◌, ℕ, List, [], ◌∷◌, Bool, true, false, if◌then◌else◌, Option, None, option_map, map, refl, String, string_bytes}
 use Rattle.std.specs.BTreeMap.{BTreeMap, insert_entry}
 use Rattle.std.specs.Cmp.Lexicographic.{slice_cmp}
 use Rattle.std.specs.Iterator.{Drains}
@@ -12,7 +12,7 @@ use Rattle.utoipa_base.specs.Extensions.{extensions_view}
 use Rattle.utoipa_base.specs.Flags.{deprecated_doc}
 use Rattle.utoipa_base.specs.Kinds.{ObjectType, named, text, flag, flows, oauth2_scheme, implicit_flow, password_flow, client_credentials_flow, authorization_code_flow, device_authorization_flow}
 use Rattle.utoipa_base.specs.OfKind.{text_of_kind, option_of_kind, deprecated_of_kind, extends_of_kind, entries_of_kind}
-use Rattle.utoipa_base.specs.Reading.{reader, first_that_fits, read_flow}
+use Rattle.utoipa_base.specs.Reading.{reader, read_flow}
 use Rattle.utoipa_base.specs.Shape.{IsOf, RowsOf, value_of, flow_place}
 use Rattle.utoipa_base.specs.Views.{text_of, option_of, map_of_docs}
 use Rattle.utoipa_security.specs.Flows as tables
@@ -36,22 +36,6 @@ flow_object (made.DeviceAuthorization f) = tables.device_authorization_doc f
 abbrev pub flow_view : Flow → Doc
 flow_view f = flow_doc (flow_object f)
 
--- the key under which a flow stands
-abbrev pub flow_key : Flow → List ℕ
-flow_key (made.Implicit f) = codes "implicit"
-flow_key (made.Password f) = codes "password"
-flow_key (made.ClientCredentials f) = codes "clientCredentials"
-flow_key (made.AuthorizationCode f) = codes "authorizationCode"
-flow_key (made.DeviceAuthorization f) = codes "deviceAuthorization"
-
--- the key of a kind of flows
-abbrev pub flow_kind_key : FlowKind → List ℕ
-flow_kind_key kinds.Implicit = codes "implicit"
-flow_kind_key kinds.Password = codes "password"
-flow_kind_key kinds.ClientCredentials = codes "clientCredentials"
-flow_kind_key kinds.AuthorizationCode = codes "authorizationCode"
-flow_kind_key kinds.DeviceAuthorization = codes "deviceAuthorization"
-
 -- the object type of a kind of flows
 abbrev pub flow_type : FlowKind → ObjectType
 flow_type kinds.Implicit = implicit_flow
@@ -60,17 +44,36 @@ flow_type kinds.ClientCredentials = client_credentials_flow
 flow_type kinds.AuthorizationCode = authorization_code_flow
 flow_type kinds.DeviceAuthorization = device_authorization_flow
 
--- each kind, in the order in which they are tried
-abbrev pub every_flow_kind : List FlowKind
-every_flow_kind = kinds.Implicit ∷ kinds.Password ∷ kinds.ClientCredentials ∷ kinds.AuthorizationCode ∷ kinds.DeviceAuthorization ∷ []
+-- whether two object types are one of the flows
+abbrev pub same_flow : ObjectType → ObjectType → Bool
+same_flow implicit_flow implicit_flow = true
+same_flow password_flow password_flow = true
+same_flow client_credentials_flow client_credentials_flow = true
+same_flow authorization_code_flow authorization_code_flow = true
+same_flow device_authorization_flow device_authorization_flow = true
+same_flow n m = false
 
--- the first kind of flows that a tree fits
-abbrev pub any_flow_read : Data → Option Doc
-any_flow_read d = first_that_fits flow_keys (reader d)
+-- the key that stands beside an object type
+abbrev pub key_beside : ObjectType → List (List ℕ × ObjectType) → List ℕ
+key_beside n [] = []
+key_beside n (k ∷ ks) = if same_flow n k.1 then k.0 else key_beside n ks
+
+-- the key under which an object stands among flows
+abbrev pub object_key : Doc → List ℕ
+object_key (table_doc n ds e) = key_beside n flow_keys
+object_key d = []
+
+-- the key under which a flow stands
+abbrev pub flow_key : Flow → List ℕ
+flow_key f = object_key (flow_object f)
 
 -- the flow that a tree under a key is
 abbrev pub flow_read : List ℕ → Data → Option Doc
 flow_read key d = read_flow (chosen key flow_keys) (reader d)
+
+-- the flow that a tree under any other key is
+abbrev pub any_flow_read : Data → Option Doc
+any_flow_read d = read_flow None (reader d)
 
 -- a flow may stand among flows
 pub flow_of_place : (f : Flow) → IsOf (flow_view f) flow_place

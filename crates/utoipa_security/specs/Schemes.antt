@@ -52,13 +52,13 @@ mutual_tls_doc description deprecated extensions =
     (doc (option_of deprecated_doc deprecated) no_docs))
     (option_map extensions_view extensions)
 
--- the word of a scheme's type
-abbrev pub scheme_word : SecurityScheme → List ℕ
-scheme_word (made.OAuth2 s) = codes "oauth2"
-scheme_word (made.ApiKey s) = codes "apiKey"
-scheme_word (made.Http s) = codes "http"
-scheme_word (made.OpenIdConnect s) = codes "openIdConnect"
-scheme_word (made.MutualTls description deprecated extensions) = codes "mutualTLS"
+-- the type of a scheme
+abbrev pub type_of : SecurityScheme → SchemeType
+type_of (made.OAuth2 s) = types.OAuth2
+type_of (made.ApiKey s) = types.ApiKey
+type_of (made.Http s) = types.Http
+type_of (made.OpenIdConnect s) = types.OpenIdConnect
+type_of (made.MutualTls description deprecated extensions) = types.MutualTls
 
 -- the members of a scheme as a document
 abbrev pub scheme_object : SecurityScheme → Doc
@@ -70,7 +70,7 @@ scheme_object (made.MutualTls description deprecated extensions) = mutual_tls_do
 
 -- a scheme as a document
 abbrev pub scheme_doc : SecurityScheme → Doc
-scheme_doc s = tagged_doc (codes "type") (scheme_word s) (scheme_object s)
+scheme_doc s = tagged_doc (codes "type") (scheme_type_text (type_of s)) (scheme_object s)
 
 -- the members of a scheme by mutual TLS are an object of their type
 mutual_tls_of_kind : (description : Option (String Global)) (deprecated : Option Deprecated) (extensions : Option Extensions) → IsOf (mutual_tls_doc description deprecated extensions) (value_of (named mutual_tls_scheme))

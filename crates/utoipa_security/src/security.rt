@@ -7,9 +7,10 @@ pub mod http;
 pub mod oauth2;
 pub mod open_id_connect;
 pub mod requirement;
+mod row_lists;
 pub mod scheme;
+mod scheme_type;
 pub mod scopes;
-mod tag;
 
 pub use api_key::{ApiKey, ApiKeyValue};
 pub use flow::{AuthorizationCode, ClientCredentials, DeviceAuthorization, Implicit, Password};

@@ -5,13 +5,23 @@ ghost use Rattle.utoipa_base.specs.Kinds.{named, api_key_scheme, api_key};
 ghost use Rattle.utoipa_base.specs.Vocabularies.{with_text};
 ghost use Rattle.utoipa_security.specs.ApiKey.{api_key_value_doc, api_key_doc, api_key_of_kind, key_place_text, every_key_place};
 
-use crate::security::tag::{read_tag, tagged};
+use crate::security::row_lists::{clone_rows, read_rows, write_rows};
+use crate::security::scheme_type::{read_type, with_type};
 use serde_json::Value;
 use std::alloc::{AllocError, Global};
-use utoipa_base::{
-    Deprecated, Extensions, ReadFault, Readings, Tree, clone_extensions, clone_option,
-    read_extensions, row_option, row_required, write_option, write_required, written_extensions,
-};
+use utoipa_base::{Deprecated, Extensions, ReadFault, Readings, Tree};
+
+// The rows of an API key, in the order of its member table: mark, member, field.
+macro_rules! api_key_rows {
+    ($lines:ident!($($arguments:tt)*)) => {
+        $lines! {
+            $($arguments)*;
+            required "name" name,
+            optional "description" description,
+            optional "deprecated" deprecated,
+        }
+    };
+}
 
 /// A Security Scheme Object of the type `apiKey` (OpenAPI 3.1, section 4.8.27), without its members `type` and `in`.
 #[derive(Debug, Drop)]
@@ -62,7 +72,6 @@ impl ApiKeyValue {
     }
 }
 
-#[tactic(auto, using(utoipa_base::proofs::ByRows::by_table))]
 impl Tree for ApiKeyValue {
     ghost use Rattle.utoipa_security.specs.ApiKey.{api_key_value_of_kind};
 
@@ -70,49 +79,22 @@ impl Tree for ApiKeyValue {
 
     ghost doc = { api_key_value_doc };
 
-    const IS_SCHEMA: bool = false;
-
-    ghost IS_SCHEMA = { false };
-
     ghost is_of_kind = { api_key_value_of_kind };
-
-    ghost counts_as_schema = { refl };
 
     fn read_plain(
         alloc: Global,
         tree: &Value,
         readings: &mut Readings,
     ) -> Result<ApiKeyValue, ReadFault> {
-        if !tree.is_object() {
-            return Err(ReadFault::Kind("ApiKeyValue"));
-        }
-        let name = row_required(alloc, tree, "name", readings)?;
-        let description = row_option(alloc, tree, "description", readings)?;
-        let deprecated = row_option(alloc, tree, "deprecated", readings)?;
-        let extensions = read_extensions(alloc, tree)?;
-        Ok(ApiKeyValue {
-            name,
-            description,
-            deprecated,
-            extensions,
-        })
+        api_key_rows!(read_rows!(ApiKeyValue, alloc, tree, readings))
     }
 
     fn to_value(&self, alloc: Global) -> Result<Value, AllocError> {
-        let mut members = written_extensions(alloc, &self.extensions)?;
-        write_required(&mut members, alloc, "name", &self.name)?;
-        write_option(&mut members, alloc, "description", &self.description)?;
-        write_option(&mut members, alloc, "deprecated", &self.deprecated)?;
-        Ok(Value::Object(members))
+        api_key_rows!(write_rows!(self, alloc))
     }
 
     fn try_clone(&self, alloc: Global) -> Result<ApiKeyValue, AllocError> {
-        Ok(ApiKeyValue {
-            name: self.name.try_clone(alloc)?,
-            description: clone_option(alloc, &self.description)?,
-            deprecated: clone_option(alloc, &self.deprecated)?,
-            extensions: clone_extensions(alloc, &self.extensions)?,
-        })
+        api_key_rows!(clone_rows!(ApiKeyValue, self, alloc))
     }
 }
 
@@ -156,26 +138,20 @@ fn in_place(place: KeyPlace, value: ApiKeyValue) -> ApiKey
     }
 }
 
-#[tactic(auto, using(crate::proofs::Tags::by_tags))]
+#[tactic(auto, using(crate::proofs::SchemeTypes::by_scheme_types))]
 impl Tree for ApiKey {
     ghost kind = { api_key };
 
     ghost doc = { api_key_doc };
 
-    const IS_SCHEMA: bool = false;
-
-    ghost IS_SCHEMA = { false };
-
     ghost is_of_kind = { api_key_of_kind };
-
-    ghost counts_as_schema = { refl };
 
     fn read_plain(
         alloc: Global,
         tree: &Value,
         readings: &mut Readings,
     ) -> Result<ApiKey, ReadFault> {
-        let word = read_tag(tree, "in", "ApiKey")?;
+        let word = read_type(tree, "in", "ApiKey")?;
         match key_place(word) {
             Some(place) => {
                 let value = ApiKeyValue::read_plain(alloc, tree, readings)?;
@@ -187,9 +163,9 @@ impl Tree for ApiKey {
 
     fn to_value(&self, alloc: Global) -> Result<Value, AllocError> {
         match self {
-            ApiKey::Header(value) => tagged(alloc, "in", "header", value.to_value(alloc)?),
-            ApiKey::Query(value) => tagged(alloc, "in", "query", value.to_value(alloc)?),
-            ApiKey::Cookie(value) => tagged(alloc, "in", "cookie", value.to_value(alloc)?),
+            ApiKey::Header(value) => with_type(alloc, "in", "header", value.to_value(alloc)?),
+            ApiKey::Query(value) => with_type(alloc, "in", "query", value.to_value(alloc)?),
+            ApiKey::Cookie(value) => with_type(alloc, "in", "cookie", value.to_value(alloc)?),
         }
     }
 

@@ -2,13 +2,23 @@
 ghost use Rattle.std.specs.Prelude.{◌≡◌, None, Some, refl, false};
 ghost use Rattle.utoipa_base.specs.Kinds.{named, implicit_flow, password_flow, client_credentials_flow, authorization_code_flow, device_authorization_flow};
 
+use crate::security::row_lists::{clone_rows, read_rows, write_rows};
 use crate::security::scopes::Scopes;
 use serde_json::Value;
 use std::alloc::{AllocError, Global};
-use utoipa_base::{
-    Extensions, ReadFault, Readings, Tree, clone_extensions, clone_option, read_extensions,
-    row_option, row_required, write_option, write_required, written_extensions,
-};
+use utoipa_base::{Extensions, ReadFault, Readings, Tree};
+
+// The rows of the implicit flow, in the order of its member table: mark, member, field.
+macro_rules! implicit_rows {
+    ($lines:ident!($($arguments:tt)*)) => {
+        $lines! {
+            $($arguments)*;
+            required "authorizationUrl" authorization_url,
+            optional "refreshUrl" refresh_url,
+            scopes "scopes" scopes,
+        }
+    };
+}
 
 /// An OAuth Flow Object (OpenAPI 3.1, section 4.8.29) under `implicit`: the implicit flow.
 #[derive(Debug, Drop)]
@@ -55,7 +65,6 @@ impl Implicit {
     }
 }
 
-#[tactic(auto, using(utoipa_base::proofs::ByRows::by_table))]
 impl Tree for Implicit {
     ghost use Rattle.utoipa_security.specs.Flows.{implicit_doc, implicit_of_kind};
 
@@ -63,56 +72,35 @@ impl Tree for Implicit {
 
     ghost doc = { implicit_doc };
 
-    const IS_SCHEMA: bool = false;
-
-    ghost IS_SCHEMA = { false };
-
     ghost is_of_kind = { implicit_of_kind };
-
-    ghost counts_as_schema = { refl };
 
     fn read_plain(
         alloc: Global,
         tree: &Value,
         readings: &mut Readings,
     ) -> Result<Implicit, ReadFault> {
-        if !tree.is_object() {
-            return Err(ReadFault::Kind("Implicit"));
-        }
-        let authorization_url = row_required(alloc, tree, "authorizationUrl", readings)?;
-        let refresh_url = row_option(alloc, tree, "refreshUrl", readings)?;
-        let scopes = row_required(alloc, tree, "scopes", readings)?;
-        let extensions = read_extensions(alloc, tree)?;
-        Ok(Implicit {
-            authorization_url,
-            refresh_url,
-            scopes: Scopes { scopes },
-            extensions,
-        })
+        implicit_rows!(read_rows!(Implicit, alloc, tree, readings))
     }
 
     fn to_value(&self, alloc: Global) -> Result<Value, AllocError> {
-        let mut members = written_extensions(alloc, &self.extensions)?;
-        write_required(
-            &mut members,
-            alloc,
-            "authorizationUrl",
-            &self.authorization_url,
-        )?;
-        write_option(&mut members, alloc, "refreshUrl", &self.refresh_url)?;
-        write_required(&mut members, alloc, "scopes", &self.scopes.scopes)?;
-        Ok(Value::Object(members))
+        implicit_rows!(write_rows!(self, alloc))
     }
 
     fn try_clone(&self, alloc: Global) -> Result<Implicit, AllocError> {
-        let scopes = self.scopes.scopes.try_clone(alloc)?;
-        Ok(Implicit {
-            authorization_url: self.authorization_url.try_clone(alloc)?,
-            refresh_url: clone_option(alloc, &self.refresh_url)?,
-            scopes: Scopes { scopes },
-            extensions: clone_extensions(alloc, &self.extensions)?,
-        })
+        implicit_rows!(clone_rows!(Implicit, self, alloc))
     }
+}
+
+// The rows of the flow by password, in the order of its member table: mark, member, field.
+macro_rules! password_rows {
+    ($lines:ident!($($arguments:tt)*)) => {
+        $lines! {
+            $($arguments)*;
+            required "tokenUrl" token_url,
+            optional "refreshUrl" refresh_url,
+            scopes "scopes" scopes,
+        }
+    };
 }
 
 /// An OAuth Flow Object (OpenAPI 3.1, section 4.8.29) under `password`: the flow by the password of the resource owner.
@@ -156,7 +144,6 @@ impl Password {
     }
 }
 
-#[tactic(auto, using(utoipa_base::proofs::ByRows::by_table))]
 impl Tree for Password {
     ghost use Rattle.utoipa_security.specs.Flows.{password_doc, password_of_kind};
 
@@ -164,51 +151,35 @@ impl Tree for Password {
 
     ghost doc = { password_doc };
 
-    const IS_SCHEMA: bool = false;
-
-    ghost IS_SCHEMA = { false };
-
     ghost is_of_kind = { password_of_kind };
-
-    ghost counts_as_schema = { refl };
 
     fn read_plain(
         alloc: Global,
         tree: &Value,
         readings: &mut Readings,
     ) -> Result<Password, ReadFault> {
-        if !tree.is_object() {
-            return Err(ReadFault::Kind("Password"));
-        }
-        let token_url = row_required(alloc, tree, "tokenUrl", readings)?;
-        let refresh_url = row_option(alloc, tree, "refreshUrl", readings)?;
-        let scopes = row_required(alloc, tree, "scopes", readings)?;
-        let extensions = read_extensions(alloc, tree)?;
-        Ok(Password {
-            token_url,
-            refresh_url,
-            scopes: Scopes { scopes },
-            extensions,
-        })
+        password_rows!(read_rows!(Password, alloc, tree, readings))
     }
 
     fn to_value(&self, alloc: Global) -> Result<Value, AllocError> {
-        let mut members = written_extensions(alloc, &self.extensions)?;
-        write_required(&mut members, alloc, "tokenUrl", &self.token_url)?;
-        write_option(&mut members, alloc, "refreshUrl", &self.refresh_url)?;
-        write_required(&mut members, alloc, "scopes", &self.scopes.scopes)?;
-        Ok(Value::Object(members))
+        password_rows!(write_rows!(self, alloc))
     }
 
     fn try_clone(&self, alloc: Global) -> Result<Password, AllocError> {
-        let scopes = self.scopes.scopes.try_clone(alloc)?;
-        Ok(Password {
-            token_url: self.token_url.try_clone(alloc)?,
-            refresh_url: clone_option(alloc, &self.refresh_url)?,
-            scopes: Scopes { scopes },
-            extensions: clone_extensions(alloc, &self.extensions)?,
-        })
+        password_rows!(clone_rows!(Password, self, alloc))
     }
+}
+
+// The rows of the flow by the client's credentials, in the order of its member table: mark, member, field.
+macro_rules! client_credentials_rows {
+    ($lines:ident!($($arguments:tt)*)) => {
+        $lines! {
+            $($arguments)*;
+            required "tokenUrl" token_url,
+            optional "refreshUrl" refresh_url,
+            scopes "scopes" scopes,
+        }
+    };
 }
 
 /// An OAuth Flow Object (OpenAPI 3.1, section 4.8.29) under `clientCredentials`: the flow by the credentials of the client.
@@ -256,7 +227,6 @@ impl ClientCredentials {
     }
 }
 
-#[tactic(auto, using(utoipa_base::proofs::ByRows::by_table))]
 impl Tree for ClientCredentials {
     ghost use Rattle.utoipa_security.specs.Flows.{client_credentials_doc, client_credentials_of_kind};
 
@@ -264,51 +234,36 @@ impl Tree for ClientCredentials {
 
     ghost doc = { client_credentials_doc };
 
-    const IS_SCHEMA: bool = false;
-
-    ghost IS_SCHEMA = { false };
-
     ghost is_of_kind = { client_credentials_of_kind };
-
-    ghost counts_as_schema = { refl };
 
     fn read_plain(
         alloc: Global,
         tree: &Value,
         readings: &mut Readings,
     ) -> Result<ClientCredentials, ReadFault> {
-        if !tree.is_object() {
-            return Err(ReadFault::Kind("ClientCredentials"));
-        }
-        let token_url = row_required(alloc, tree, "tokenUrl", readings)?;
-        let refresh_url = row_option(alloc, tree, "refreshUrl", readings)?;
-        let scopes = row_required(alloc, tree, "scopes", readings)?;
-        let extensions = read_extensions(alloc, tree)?;
-        Ok(ClientCredentials {
-            token_url,
-            refresh_url,
-            scopes: Scopes { scopes },
-            extensions,
-        })
+        client_credentials_rows!(read_rows!(ClientCredentials, alloc, tree, readings))
     }
 
     fn to_value(&self, alloc: Global) -> Result<Value, AllocError> {
-        let mut members = written_extensions(alloc, &self.extensions)?;
-        write_required(&mut members, alloc, "tokenUrl", &self.token_url)?;
-        write_option(&mut members, alloc, "refreshUrl", &self.refresh_url)?;
-        write_required(&mut members, alloc, "scopes", &self.scopes.scopes)?;
-        Ok(Value::Object(members))
+        client_credentials_rows!(write_rows!(self, alloc))
     }
 
     fn try_clone(&self, alloc: Global) -> Result<ClientCredentials, AllocError> {
-        let scopes = self.scopes.scopes.try_clone(alloc)?;
-        Ok(ClientCredentials {
-            token_url: self.token_url.try_clone(alloc)?,
-            refresh_url: clone_option(alloc, &self.refresh_url)?,
-            scopes: Scopes { scopes },
-            extensions: clone_extensions(alloc, &self.extensions)?,
-        })
+        client_credentials_rows!(clone_rows!(ClientCredentials, self, alloc))
     }
+}
+
+// The rows of the flow by an authorization code, in the order of its member table: mark, member, field.
+macro_rules! authorization_code_rows {
+    ($lines:ident!($($arguments:tt)*)) => {
+        $lines! {
+            $($arguments)*;
+            required "authorizationUrl" authorization_url,
+            required "tokenUrl" token_url,
+            optional "refreshUrl" refresh_url,
+            scopes "scopes" scopes,
+        }
+    };
 }
 
 /// An OAuth Flow Object (OpenAPI 3.1, section 4.8.29) under `authorizationCode`: the flow by an authorization code.
@@ -361,7 +316,6 @@ impl AuthorizationCode {
     }
 }
 
-#[tactic(auto, using(utoipa_base::proofs::ByRows::by_table))]
 impl Tree for AuthorizationCode {
     ghost use Rattle.utoipa_security.specs.Flows.{authorization_code_doc, authorization_code_of_kind};
 
@@ -369,60 +323,36 @@ impl Tree for AuthorizationCode {
 
     ghost doc = { authorization_code_doc };
 
-    const IS_SCHEMA: bool = false;
-
-    ghost IS_SCHEMA = { false };
-
     ghost is_of_kind = { authorization_code_of_kind };
-
-    ghost counts_as_schema = { refl };
 
     fn read_plain(
         alloc: Global,
         tree: &Value,
         readings: &mut Readings,
     ) -> Result<AuthorizationCode, ReadFault> {
-        if !tree.is_object() {
-            return Err(ReadFault::Kind("AuthorizationCode"));
-        }
-        let authorization_url = row_required(alloc, tree, "authorizationUrl", readings)?;
-        let token_url = row_required(alloc, tree, "tokenUrl", readings)?;
-        let refresh_url = row_option(alloc, tree, "refreshUrl", readings)?;
-        let scopes = row_required(alloc, tree, "scopes", readings)?;
-        let extensions = read_extensions(alloc, tree)?;
-        Ok(AuthorizationCode {
-            authorization_url,
-            token_url,
-            refresh_url,
-            scopes: Scopes { scopes },
-            extensions,
-        })
+        authorization_code_rows!(read_rows!(AuthorizationCode, alloc, tree, readings))
     }
 
     fn to_value(&self, alloc: Global) -> Result<Value, AllocError> {
-        let mut members = written_extensions(alloc, &self.extensions)?;
-        write_required(
-            &mut members,
-            alloc,
-            "authorizationUrl",
-            &self.authorization_url,
-        )?;
-        write_required(&mut members, alloc, "tokenUrl", &self.token_url)?;
-        write_option(&mut members, alloc, "refreshUrl", &self.refresh_url)?;
-        write_required(&mut members, alloc, "scopes", &self.scopes.scopes)?;
-        Ok(Value::Object(members))
+        authorization_code_rows!(write_rows!(self, alloc))
     }
 
     fn try_clone(&self, alloc: Global) -> Result<AuthorizationCode, AllocError> {
-        let scopes = self.scopes.scopes.try_clone(alloc)?;
-        Ok(AuthorizationCode {
-            authorization_url: self.authorization_url.try_clone(alloc)?,
-            token_url: self.token_url.try_clone(alloc)?,
-            refresh_url: clone_option(alloc, &self.refresh_url)?,
-            scopes: Scopes { scopes },
-            extensions: clone_extensions(alloc, &self.extensions)?,
-        })
+        authorization_code_rows!(clone_rows!(AuthorizationCode, self, alloc))
     }
+}
+
+// The rows of the flow of devices, in the order of its member table: mark, member, field.
+macro_rules! device_authorization_rows {
+    ($lines:ident!($($arguments:tt)*)) => {
+        $lines! {
+            $($arguments)*;
+            required "deviceAuthorizationUrl" device_authorization_url,
+            required "tokenUrl" token_url,
+            optional "refreshUrl" refresh_url,
+            scopes "scopes" scopes,
+        }
+    };
 }
 
 /// An OAuth Flow Object (OpenAPI 3.1, section 4.8.29) under `deviceAuthorization`: the flow of devices without a browser, from OpenAPI 3.2 on.
@@ -479,7 +409,6 @@ impl DeviceAuthorization {
     }
 }
 
-#[tactic(auto, using(utoipa_base::proofs::ByRows::by_table))]
 impl Tree for DeviceAuthorization {
     ghost use Rattle.utoipa_security.specs.Flows.{device_authorization_doc, device_authorization_of_kind};
 
@@ -487,58 +416,21 @@ impl Tree for DeviceAuthorization {
 
     ghost doc = { device_authorization_doc };
 
-    const IS_SCHEMA: bool = false;
-
-    ghost IS_SCHEMA = { false };
-
     ghost is_of_kind = { device_authorization_of_kind };
-
-    ghost counts_as_schema = { refl };
 
     fn read_plain(
         alloc: Global,
         tree: &Value,
         readings: &mut Readings,
     ) -> Result<DeviceAuthorization, ReadFault> {
-        if !tree.is_object() {
-            return Err(ReadFault::Kind("DeviceAuthorization"));
-        }
-        let device_url = row_required(alloc, tree, "deviceAuthorizationUrl", readings)?;
-        let token_url = row_required(alloc, tree, "tokenUrl", readings)?;
-        let refresh_url = row_option(alloc, tree, "refreshUrl", readings)?;
-        let scopes = row_required(alloc, tree, "scopes", readings)?;
-        let extensions = read_extensions(alloc, tree)?;
-        Ok(DeviceAuthorization {
-            device_authorization_url: device_url,
-            token_url,
-            refresh_url,
-            scopes: Scopes { scopes },
-            extensions,
-        })
+        device_authorization_rows!(read_rows!(DeviceAuthorization, alloc, tree, readings))
     }
 
     fn to_value(&self, alloc: Global) -> Result<Value, AllocError> {
-        let mut members = written_extensions(alloc, &self.extensions)?;
-        write_required(
-            &mut members,
-            alloc,
-            "deviceAuthorizationUrl",
-            &self.device_authorization_url,
-        )?;
-        write_required(&mut members, alloc, "tokenUrl", &self.token_url)?;
-        write_option(&mut members, alloc, "refreshUrl", &self.refresh_url)?;
-        write_required(&mut members, alloc, "scopes", &self.scopes.scopes)?;
-        Ok(Value::Object(members))
+        device_authorization_rows!(write_rows!(self, alloc))
     }
 
     fn try_clone(&self, alloc: Global) -> Result<DeviceAuthorization, AllocError> {
-        let scopes = self.scopes.scopes.try_clone(alloc)?;
-        Ok(DeviceAuthorization {
-            device_authorization_url: self.device_authorization_url.try_clone(alloc)?,
-            token_url: self.token_url.try_clone(alloc)?,
-            refresh_url: clone_option(alloc, &self.refresh_url)?,
-            scopes: Scopes { scopes },
-            extensions: clone_extensions(alloc, &self.extensions)?,
-        })
+        device_authorization_rows!(clone_rows!(DeviceAuthorization, self, alloc))
     }
 }

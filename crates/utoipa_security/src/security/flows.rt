@@ -1,18 +1,16 @@
 //! The flows of OAuth under their keys: the OAuth Flows Object (OpenAPI 3.1, section 4.8.28).
-ghost use Rattle.std.specs.Prelude.{◌≡◌, ◌≤◌, ◌<◌, ◌+◌, Some, codes, option_map, IfOk, IfErr, OnOk};
+ghost use Rattle.std.specs.Prelude.{◌≡◌, Some, option_map, IfOk, IfErr, OnOk, OnErr};
 ghost use Rattle.std.specs.Iterator.{IsFinite};
-ghost use Rattle.serde_json.specs.Find.{get};
 ghost use Rattle.serde_json.specs.View.{view, members_view};
+ghost use Rattle.utoipa_base.specs.Choices.{chosen, flow_keys};
 ghost use Rattle.utoipa_base.specs.Faults.{Refuses};
-ghost use Rattle.utoipa_base.specs.Fields.{field, put_field};
+ghost use Rattle.utoipa_base.specs.Fields.{put_field};
 ghost use Rattle.utoipa_base.specs.Kinds.{named, required};
 ghost use Rattle.utoipa_base.specs.Kinds as kinds;
 ghost use Rattle.utoipa_base.specs.Reading.{read};
 ghost use Rattle.utoipa_base.specs.Tables.{row};
-ghost use Rattle.utoipa_base.specs.Values.{values_of, schema_count};
-ghost use Rattle.utoipa_base.specs.Vocabularies.{with_text};
 ghost use Rattle.utoipa_base.specs.Writing.{write};
-ghost use Rattle.utoipa_security.specs.OAuth.{flow_object, flow_view, flow_key, flow_kind_key, flow_type, every_flow_kind, flow_read, any_flow_read, flows_doc, IsKeyedFrom};
+ghost use Rattle.utoipa_security.specs.OAuth.{flow_object, flow_view, flow_key, flow_type, flow_read, any_flow_read, flows_doc, IsKeyedFrom};
 
 use crate::security::flow::{
     AuthorizationCode, ClientCredentials, DeviceAuthorization, Implicit, Password,
@@ -20,6 +18,7 @@ use crate::security::flow::{
 use serde_json::{Map, Value, put};
 use std::alloc::{AllocError, Global};
 use std::collections::BTreeMap;
+use utoipa_base::table::RowField;
 use utoipa_base::{ReadFault, Readings, Tree};
 
 /// An OAuth Flow Object (OpenAPI 3.1, section 4.8.29) of one of the kinds.
@@ -89,8 +88,9 @@ pub(crate) enum FlowKind {
     DeviceAuthorization,
 }
 
+// The kind of flows that a key names.
 fn flow_kind(key: &str) -> Option<FlowKind>
-    ensures { result ≡ with_text flow_kind_key every_flow_kind key.now }
+    ensures { option_map flow_type result ≡ chosen key.now flow_keys }
 {
     match key {
         "implicit" => Some(FlowKind::Implicit),
@@ -102,36 +102,28 @@ fn flow_kind(key: &str) -> Option<FlowKind>
     }
 }
 
-// A flow of one kind. No flow holds a schema, so that nothing is to be counted.
+// The value of a type that holds no schema, so that nothing is to be counted.
+fn read_uncounted<T: Tree>(alloc: Global, tree: &Value) -> Result<T, ReadFault>
+    ensures ok { IfOk result (λ v. read T.kind (view tree.now) ≡ Some (T.doc v)) }
+    ensures err { IfErr result (Refuses (read T.kind (view tree.now))) }
+{
+    let mut uncounted = Readings::new();
+    T::read_plain(alloc, tree, &mut uncounted)
+}
+
+// A flow of one kind.
 fn read_as(kind: FlowKind, alloc: Global, tree: &Value) -> Result<Flow, ReadFault>
     ensures ok { IfOk result (λ f. read (named (flow_type kind)) (view tree.now) ≡ Some (flow_object f)) }
     ensures err { IfErr result (Refuses (read (named (flow_type kind)) (view tree.now))) }
 {
-    let mut uncounted = Readings::new();
     match kind {
-        FlowKind::Implicit => Ok(Flow::Implicit(Implicit::read_plain(
-            alloc,
-            tree,
-            &mut uncounted,
-        )?)),
-        FlowKind::Password => Ok(Flow::Password(Password::read_plain(
-            alloc,
-            tree,
-            &mut uncounted,
-        )?)),
-        FlowKind::ClientCredentials => Ok(Flow::ClientCredentials(ClientCredentials::read_plain(
-            alloc,
-            tree,
-            &mut uncounted,
-        )?)),
-        FlowKind::AuthorizationCode => Ok(Flow::AuthorizationCode(AuthorizationCode::read_plain(
-            alloc,
-            tree,
-            &mut uncounted,
-        )?)),
-        FlowKind::DeviceAuthorization => Ok(Flow::DeviceAuthorization(
-            DeviceAuthorization::read_plain(alloc, tree, &mut uncounted)?,
-        )),
+        FlowKind::Implicit => Ok(Flow::Implicit(read_uncounted(alloc, tree)?)),
+        FlowKind::Password => Ok(Flow::Password(read_uncounted(alloc, tree)?)),
+        FlowKind::ClientCredentials => Ok(Flow::ClientCredentials(read_uncounted(alloc, tree)?)),
+        FlowKind::AuthorizationCode => Ok(Flow::AuthorizationCode(read_uncounted(alloc, tree)?)),
+        FlowKind::DeviceAuthorization => {
+            Ok(Flow::DeviceAuthorization(read_uncounted(alloc, tree)?))
+        }
     }
 }
 
@@ -139,8 +131,7 @@ fn read_as(kind: FlowKind, alloc: Global, tree: &Value) -> Result<Flow, ReadFaul
 fn read_if_fits<T: Tree>(alloc: Global, tree: &Value) -> Result<Option<T>, AllocError>
     ensures { IfOk result (λ o. read T.kind (view tree.now) ≡ option_map T.doc o) }
 {
-    let mut uncounted = Readings::new();
-    match T::read_plain(alloc, tree, &mut uncounted) {
+    match read_uncounted(alloc, tree) {
         Ok(value) => Ok(Some(value)),
         Err(ReadFault::Memory) => Err(AllocError),
         Err(_) => Ok(None),
@@ -149,7 +140,7 @@ fn read_if_fits<T: Tree>(alloc: Global, tree: &Value) -> Result<Option<T>, Alloc
 
 // A flow of the first kind that fits.
 fn read_any(alloc: Global, tree: &Value) -> Result<Flow, ReadFault>
-    ensures ok { IfOk result (λ f. any_flow_read (view tree.now) ≡ Some (flow_object f)) }
+    ensures ok { IfOk result (λ f. any_flow_read (view tree.now) ≡ Some (flow_view f)) }
     ensures err { IfErr result (Refuses (any_flow_read (view tree.now))) }
 {
     if let Some(implicit) = read_if_fits(alloc, tree)? {
@@ -198,25 +189,27 @@ fn read_flows(alloc: Global, tree: &Value) -> Result<BTreeMap<String, Flow>, Rea
     Ok(map)
 }
 
-/// The flows of a required member, refused as `Missing` where it is absent. No flow holds a schema, so that nothing is
-/// counted.
+/// The flows of an OAuth scheme: a required member of it.
+#[derive(Drop)]
+pub(crate) struct FlowsField(pub(crate) BTreeMap<String, Flow>);
+
 #[tactic(auto, using(utoipa_base::proofs::ByRows::by_row))]
-pub(crate) fn row_flows(
-    alloc: Global,
-    tree: &Value,
-    name: &'static str,
-    _readings: &mut Readings,
-) -> Result<BTreeMap<String, Flow>, ReadFault>
-    ensures ok { IfOk result (λ m. field (row name.now required kinds.flows) (view tree.now) ≡ Some (flows_doc m)) }
-    ensures err { IfErr result (Refuses (field (row name.now required kinds.flows) (view tree.now))) }
-    ensures grows { _readings.old ≤ _readings.new }
-    ensures at_most { _readings.new ≤ _readings.old + values_of (get name.now (view tree.now)) }
-    ensures at_least { IfOk result (λ m. _readings.new < u64.MAX
-        → _readings.old + schema_count (flows_doc m) ≤ _readings.new) }
-{
-    match tree.get(name) {
-        Some(member) => read_flows(alloc, member),
-        None => Err(ReadFault::Missing(name)),
+impl RowField for FlowsField {
+    ghost line = { λ name. row name required kinds.flows };
+
+    ghost doc = { λ v. flows_doc v.0 };
+
+    // No flow holds a schema, so that nothing is to be counted.
+    fn read(
+        alloc: Global,
+        tree: &Value,
+        name: &'static str,
+        _readings: &mut Readings,
+    ) -> Result<FlowsField, ReadFault> {
+        match tree.get(name) {
+            Some(member) => Ok(FlowsField(read_flows(alloc, member)?)),
+            None => Err(ReadFault::Missing(name)),
+        }
     }
 }
 
@@ -230,7 +223,7 @@ fn flows_value(alloc: Global, flows: &BTreeMap<String, Flow>) -> Result<Value, A
     Ok(Value::Object(members))
 }
 
-/// Writes flows as a required member.
+/// Writes the flows of an OAuth scheme. Fails where memory runs out; then the members are as they were.
 #[tactic(auto, using(utoipa_base::proofs::ByRows::by_row))]
 pub(crate) fn write_flows(
     members: &mut Map<String, Value>,
@@ -238,13 +231,14 @@ pub(crate) fn write_flows(
     name: &'static str,
     flows: &BTreeMap<String, Flow>,
 ) -> Result<(), AllocError>
-    ensures { OnOk result (members_view members.new.entries
+    ensures ok { OnOk result (members_view members.new.entries
         ≡ put_field (row name.now required kinds.flows) (flows_doc flows.now) (members_view members.old.entries)) }
+    ensures err { OnErr result (members.new.entries ≡ members.old.entries) }
 {
     put(members, alloc, name, flows_value(alloc, flows)?)
 }
 
-/// Equal flows under the same keys.
+/// Equal flows under the same keys. Fails where memory runs out.
 pub(crate) fn clone_flows(
     alloc: Global,
     flows: &BTreeMap<String, Flow>,
@@ -260,7 +254,7 @@ pub(crate) fn clone_flows(
     Ok(map)
 }
 
-/// Each flow under the key of its kind. The later of two of one kind stays.
+/// Each flow under the key of its kind. The later of two of one kind stays. Fails where memory runs out.
 pub(crate) fn keyed_flows<I: Iterator<Item = Flow> + Drop>(
     alloc: Global,
     flows: I,

@@ -2,13 +2,10 @@
 ghost use Rattle.std.specs.Prelude.{◌≡◌, None, Some, refl, false};
 ghost use Rattle.utoipa_base.specs.Kinds.{named, http_scheme, word_of, http_auth_scheme};
 
+use crate::security::row_lists::{clone_rows, read_rows, write_rows};
 use serde_json::Value;
 use std::alloc::{AllocError, Global};
-use utoipa_base::{
-    Deprecated, Extensions, ReadFault, Readings, Tree, Word, clone_extensions, clone_option,
-    read_extensions, read_word, row_option, row_required, write_option, write_required, write_word,
-    written_extensions,
-};
+use utoipa_base::{Deprecated, Extensions, ReadFault, Readings, Tree, Word, read_word, write_word};
 
 /// The name of an HTTP authentication scheme: the member `scheme` of a Security Scheme Object of the type `http`
 /// (OpenAPI 3.1, section 4.8.27).
@@ -90,13 +87,7 @@ impl Tree for HttpAuthScheme {
 
     ghost doc = { auth_scheme_doc };
 
-    const IS_SCHEMA: bool = false;
-
-    ghost IS_SCHEMA = { false };
-
     ghost is_of_kind = { auth_scheme_of_kind };
-
-    ghost counts_as_schema = { refl };
 
     fn read_plain(
         _alloc: Global,
@@ -113,6 +104,19 @@ impl Tree for HttpAuthScheme {
     fn try_clone(&self, _alloc: Global) -> Result<HttpAuthScheme, AllocError> {
         Ok(*self)
     }
+}
+
+// The rows of a scheme of HTTP authentication, in the order of its member table: mark, member, field.
+macro_rules! http_rows {
+    ($lines:ident!($($arguments:tt)*)) => {
+        $lines! {
+            $($arguments)*;
+            required "scheme" scheme,
+            optional "bearerFormat" bearer_format,
+            optional "description" description,
+            optional "deprecated" deprecated,
+        }
+    };
 }
 
 /// A Security Scheme Object of the type `http` (OpenAPI 3.1, section 4.8.27), without its member `type`.
@@ -154,7 +158,6 @@ impl Http {
     }
 }
 
-#[tactic(auto, using(utoipa_base::proofs::ByRows::by_table))]
 impl Tree for Http {
     ghost use Rattle.utoipa_security.specs.Http.{http_doc, http_of_kind};
 
@@ -162,49 +165,18 @@ impl Tree for Http {
 
     ghost doc = { http_doc };
 
-    const IS_SCHEMA: bool = false;
-
-    ghost IS_SCHEMA = { false };
-
     ghost is_of_kind = { http_of_kind };
 
-    ghost counts_as_schema = { refl };
-
     fn read_plain(alloc: Global, tree: &Value, readings: &mut Readings) -> Result<Http, ReadFault> {
-        if !tree.is_object() {
-            return Err(ReadFault::Kind("Http"));
-        }
-        let scheme = row_required(alloc, tree, "scheme", readings)?;
-        let bearer_format = row_option(alloc, tree, "bearerFormat", readings)?;
-        let description = row_option(alloc, tree, "description", readings)?;
-        let deprecated = row_option(alloc, tree, "deprecated", readings)?;
-        let extensions = read_extensions(alloc, tree)?;
-        Ok(Http {
-            scheme,
-            bearer_format,
-            description,
-            deprecated,
-            extensions,
-        })
+        http_rows!(read_rows!(Http, alloc, tree, readings))
     }
 
     fn to_value(&self, alloc: Global) -> Result<Value, AllocError> {
-        let mut members = written_extensions(alloc, &self.extensions)?;
-        write_required(&mut members, alloc, "scheme", &self.scheme)?;
-        write_option(&mut members, alloc, "bearerFormat", &self.bearer_format)?;
-        write_option(&mut members, alloc, "description", &self.description)?;
-        write_option(&mut members, alloc, "deprecated", &self.deprecated)?;
-        Ok(Value::Object(members))
+        http_rows!(write_rows!(self, alloc))
     }
 
     fn try_clone(&self, alloc: Global) -> Result<Http, AllocError> {
-        Ok(Http {
-            scheme: self.scheme.try_clone(alloc)?,
-            bearer_format: clone_option(alloc, &self.bearer_format)?,
-            description: clone_option(alloc, &self.description)?,
-            deprecated: clone_option(alloc, &self.deprecated)?,
-            extensions: clone_extensions(alloc, &self.extensions)?,
-        })
+        http_rows!(clone_rows!(Http, self, alloc))
     }
 }
 

@@ -3,14 +3,25 @@ ghost use Rattle.std.specs.Prelude.{◌≡◌, None, Some, refl, false, IfOk};
 ghost use Rattle.std.specs.Iterator.{IsFinite};
 ghost use Rattle.utoipa_base.specs.Kinds.{named, oauth2_scheme};
 
-use crate::security::flows::{Flow, clone_flows, keyed_flows, row_flows, write_flows};
+use crate::security::flows::{Flow, keyed_flows};
+use crate::security::row_lists::{clone_rows, read_rows, write_rows};
 use serde_json::Value;
 use std::alloc::{AllocError, Global};
 use std::collections::BTreeMap;
-use utoipa_base::{
-    Deprecated, Extensions, ReadFault, Readings, Tree, clone_extensions, clone_option,
-    read_extensions, row_option, write_option, written_extensions,
-};
+use utoipa_base::{Deprecated, Extensions, ReadFault, Readings, Tree};
+
+// The rows of a scheme by OAuth 2, in the order of its member table: mark, member, field.
+macro_rules! oauth2_rows {
+    ($lines:ident!($($arguments:tt)*)) => {
+        $lines! {
+            $($arguments)*;
+            flows "flows" flows,
+            optional "oauth2MetadataUrl" oauth2_metadata_url,
+            optional "description" description,
+            optional "deprecated" deprecated,
+        }
+    };
+}
 
 /// A Security Scheme Object of the type `oauth2` (OpenAPI 3.1, section 4.8.27), without its member `type`.
 #[derive(Debug, Drop)]
@@ -49,7 +60,7 @@ impl OAuth2 {
         })
     }
 
-    /// As [`OAuth2::new`], with a description.
+    /// As [`OAuth2::new`], with a description. The iterator has to end. Fails where memory runs out.
     pub fn with_description<I: Iterator<Item = Flow> + Drop>(
         alloc: Global,
         flows: I,
@@ -85,7 +96,6 @@ impl OAuth2 {
     }
 }
 
-#[tactic(auto, using(utoipa_base::proofs::ByRows::by_table))]
 impl Tree for OAuth2 {
     ghost use Rattle.utoipa_security.specs.OAuth.{oauth2_doc, oauth2_of_kind};
 
@@ -93,57 +103,21 @@ impl Tree for OAuth2 {
 
     ghost doc = { oauth2_doc };
 
-    const IS_SCHEMA: bool = false;
-
-    ghost IS_SCHEMA = { false };
-
     ghost is_of_kind = { oauth2_of_kind };
-
-    ghost counts_as_schema = { refl };
 
     fn read_plain(
         alloc: Global,
         tree: &Value,
         readings: &mut Readings,
     ) -> Result<OAuth2, ReadFault> {
-        if !tree.is_object() {
-            return Err(ReadFault::Kind("OAuth2"));
-        }
-        let flows = row_flows(alloc, tree, "flows", readings)?;
-        let oauth2_metadata_url = row_option(alloc, tree, "oauth2MetadataUrl", readings)?;
-        let description = row_option(alloc, tree, "description", readings)?;
-        let deprecated = row_option(alloc, tree, "deprecated", readings)?;
-        let extensions = read_extensions(alloc, tree)?;
-        Ok(OAuth2 {
-            flows,
-            oauth2_metadata_url,
-            description,
-            deprecated,
-            extensions,
-        })
+        oauth2_rows!(read_rows!(OAuth2, alloc, tree, readings))
     }
 
     fn to_value(&self, alloc: Global) -> Result<Value, AllocError> {
-        let mut members = written_extensions(alloc, &self.extensions)?;
-        write_flows(&mut members, alloc, "flows", &self.flows)?;
-        write_option(
-            &mut members,
-            alloc,
-            "oauth2MetadataUrl",
-            &self.oauth2_metadata_url,
-        )?;
-        write_option(&mut members, alloc, "description", &self.description)?;
-        write_option(&mut members, alloc, "deprecated", &self.deprecated)?;
-        Ok(Value::Object(members))
+        oauth2_rows!(write_rows!(self, alloc))
     }
 
     fn try_clone(&self, alloc: Global) -> Result<OAuth2, AllocError> {
-        Ok(OAuth2 {
-            flows: clone_flows(alloc, &self.flows)?,
-            oauth2_metadata_url: clone_option(alloc, &self.oauth2_metadata_url)?,
-            description: clone_option(alloc, &self.description)?,
-            deprecated: clone_option(alloc, &self.deprecated)?,
-            extensions: clone_extensions(alloc, &self.extensions)?,
-        })
+        oauth2_rows!(clone_rows!(OAuth2, self, alloc))
     }
 }

@@ -2,12 +2,22 @@
 ghost use Rattle.std.specs.Prelude.{◌≡◌, None, Some, refl, false};
 ghost use Rattle.utoipa_base.specs.Kinds.{named, open_id_connect_scheme};
 
+use crate::security::row_lists::{clone_rows, read_rows, write_rows};
 use serde_json::Value;
 use std::alloc::{AllocError, Global};
-use utoipa_base::{
-    Deprecated, Extensions, ReadFault, Readings, Tree, clone_extensions, clone_option,
-    read_extensions, row_option, row_required, write_option, write_required, written_extensions,
-};
+use utoipa_base::{Deprecated, Extensions, ReadFault, Readings, Tree};
+
+// The rows of a scheme by OpenID Connect, in the order of its member table: mark, member, field.
+macro_rules! open_id_connect_rows {
+    ($lines:ident!($($arguments:tt)*)) => {
+        $lines! {
+            $($arguments)*;
+            required "openIdConnectUrl" open_id_connect_url,
+            optional "description" description,
+            optional "deprecated" deprecated,
+        }
+    };
+}
 
 /// A Security Scheme Object of the type `openIdConnect` (OpenAPI 3.1, section 4.8.27), without its member `type`.
 #[derive(Debug, Drop)]
@@ -58,7 +68,6 @@ impl OpenIdConnect {
     }
 }
 
-#[tactic(auto, using(utoipa_base::proofs::ByRows::by_table))]
 impl Tree for OpenIdConnect {
     ghost use Rattle.utoipa_security.specs.OpenIdConnect.{open_id_connect_doc, open_id_connect_of_kind};
 
@@ -66,53 +75,21 @@ impl Tree for OpenIdConnect {
 
     ghost doc = { open_id_connect_doc };
 
-    const IS_SCHEMA: bool = false;
-
-    ghost IS_SCHEMA = { false };
-
     ghost is_of_kind = { open_id_connect_of_kind };
-
-    ghost counts_as_schema = { refl };
 
     fn read_plain(
         alloc: Global,
         tree: &Value,
         readings: &mut Readings,
     ) -> Result<OpenIdConnect, ReadFault> {
-        if !tree.is_object() {
-            return Err(ReadFault::Kind("OpenIdConnect"));
-        }
-        let open_id_connect_url = row_required(alloc, tree, "openIdConnectUrl", readings)?;
-        let description = row_option(alloc, tree, "description", readings)?;
-        let deprecated = row_option(alloc, tree, "deprecated", readings)?;
-        let extensions = read_extensions(alloc, tree)?;
-        Ok(OpenIdConnect {
-            open_id_connect_url,
-            description,
-            deprecated,
-            extensions,
-        })
+        open_id_connect_rows!(read_rows!(OpenIdConnect, alloc, tree, readings))
     }
 
     fn to_value(&self, alloc: Global) -> Result<Value, AllocError> {
-        let mut members = written_extensions(alloc, &self.extensions)?;
-        write_required(
-            &mut members,
-            alloc,
-            "openIdConnectUrl",
-            &self.open_id_connect_url,
-        )?;
-        write_option(&mut members, alloc, "description", &self.description)?;
-        write_option(&mut members, alloc, "deprecated", &self.deprecated)?;
-        Ok(Value::Object(members))
+        open_id_connect_rows!(write_rows!(self, alloc))
     }
 
     fn try_clone(&self, alloc: Global) -> Result<OpenIdConnect, AllocError> {
-        Ok(OpenIdConnect {
-            open_id_connect_url: self.open_id_connect_url.try_clone(alloc)?,
-            description: clone_option(alloc, &self.description)?,
-            deprecated: clone_option(alloc, &self.deprecated)?,
-            extensions: clone_extensions(alloc, &self.extensions)?,
-        })
+        open_id_connect_rows!(clone_rows!(OpenIdConnect, self, alloc))
     }
 }

@@ -1,5 +1,5 @@
 //! What has to be met for a request.
-ghost use Rattle.std.specs.Prelude.{◌≡◌, [], ◌∷◌, refl, false, IfOk, string_cmp};
+ghost use Rattle.std.specs.Prelude.{◌≡◌, ◌↔◌, [], ◌∷◌, IfOk, IsTrue, string_cmp};
 ghost use Rattle.std.specs.BTreeMap.{insert_entry};
 ghost use Rattle.std.specs.Iterator.{IsFinite};
 ghost use Rattle.utoipa_base.specs.Lists.{IsFilledFrom};
@@ -18,7 +18,7 @@ pub struct SecurityRequirement {
 }
 
 impl SecurityRequirement {
-    ghost use Rattle.utoipa_security.specs.Requirement.{requirement_entries, ScopeNames};
+    ghost use Rattle.utoipa_security.specs.Requirement.{requirement_doc, requirement_entries, ScopeNames};
 
     /// The requirement of one scheme, with all that the iterator gives as its scopes. The iterator has to end. Fails
     /// where memory runs out.
@@ -64,6 +64,13 @@ impl SecurityRequirement {
         drop(self.value.insert(name, listed)?);
         Ok(self)
     }
+
+    /// Whether both name the same schemes, with the same scopes in the same order.
+    pub fn same(&self, other: &SecurityRequirement) -> bool
+        ensures { IsTrue result ↔ (requirement_doc self.now ≡ requirement_doc other.now) }
+    {
+        self.value.same(&other.value)
+    }
 }
 
 /// An object as a map from the names of schemes.
@@ -74,13 +81,7 @@ impl Tree for SecurityRequirement {
 
     ghost doc = { requirement_doc };
 
-    const IS_SCHEMA: bool = false;
-
-    ghost IS_SCHEMA = { false };
-
     ghost is_of_kind = { requirement_of_kind };
-
-    ghost counts_as_schema = { refl };
 
     fn read_plain(
         alloc: Global,
@@ -102,13 +103,15 @@ impl Tree for SecurityRequirement {
     }
 }
 
-/// Requirements are compared by the names of their schemes and the scopes of each, in order.
+/// Requirements are compared by the names of their schemes and the scopes of each, in order. They hold texts only, and so no
+/// fraction.
+#[tactic(auto, using(crate::proofs::Requirement::by_requirements))]
 impl Same for SecurityRequirement {
     fn has_fraction(&self) -> bool {
-        self.value.has_fraction()
+        false
     }
 
     fn same(&self, other: &SecurityRequirement) -> bool {
-        self.value.same(&other.value)
+        SecurityRequirement::same(self, other)
     }
 }

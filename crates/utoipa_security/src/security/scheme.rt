@@ -1,24 +1,25 @@
 //! Security schemes of every type.
-ghost use Rattle.std.specs.Prelude.{◌≡◌, ◌≤◌, ◌<◌, ◌+◌, None, Some, codes, option_map, refl, false, IfOk, IfErr};
+ghost use Rattle.std.specs.Prelude.{◌≡◌, IfOk};
 ghost use Rattle.serde_json.specs.View.{view};
-ghost use Rattle.utoipa_base.specs.Faults.{Refuses};
 ghost use Rattle.utoipa_base.specs.Kinds.{named, security_scheme, mutual_tls_scheme};
 ghost use Rattle.utoipa_base.specs.Reading.{read};
-ghost use Rattle.utoipa_base.specs.Values.{values, schema_count};
+ghost use Rattle.utoipa_base.specs.Reads.{Reads};
+ghost use Rattle.utoipa_base.specs.Values.{values};
 ghost use Rattle.utoipa_base.specs.Vocabularies.{with_text};
 ghost use Rattle.utoipa_base.specs.Writing.{write};
-ghost use Rattle.utoipa_security.specs.Schemes.{mutual_tls_doc, scheme_word, scheme_object, scheme_doc, scheme_of_kind, scheme_type_text, scheme_kind, every_scheme_type};
+ghost use Rattle.utoipa_security.specs.Schemes.{mutual_tls_doc, type_of, scheme_object, scheme_doc, scheme_of_kind, scheme_type_text, scheme_kind, every_scheme_type};
 
 use crate::security::api_key::ApiKey;
 use crate::security::http::Http;
 use crate::security::oauth2::OAuth2;
 use crate::security::open_id_connect::OpenIdConnect;
-use crate::security::tag::{read_tag, tagged};
+use crate::security::scheme_type::{read_type, with_type};
 use serde_json::Value;
 use std::alloc::{AllocError, Global};
+use utoipa_base::table::{OptionalField, read_table};
 use utoipa_base::{
-    Deprecated, Extensions, ReadFault, Readings, Tree, clone_extensions, clone_option,
-    read_extensions, row_option, write_option, written_extensions,
+    Deprecated, Extensions, Place, ReadFault, Readings, Tree, clone_extensions, clone_option,
+    write_option, written_extensions,
 };
 
 /// A Security Scheme Object (OpenAPI 3.1, section 4.8.27), by its member `type`.
@@ -65,26 +66,19 @@ fn scheme_type(word: &str) -> Option<SchemeType>
     }
 }
 
-#[tactic(auto, using(utoipa_base::proofs::ByRows::by_table))]
+// The members of a scheme of the type `mutualTLS`.
 fn read_mutual_tls(
     alloc: Global,
     tree: &Value,
     readings: &mut Readings,
 ) -> Result<SecurityScheme, ReadFault>
-    ensures ok { IfOk result (λ s. (scheme_word s ≡ codes "mutualTLS")
-        × (read (named mutual_tls_scheme) (view tree.now) ≡ Some (scheme_object s))) }
-    ensures err { IfErr result (Refuses (read (named mutual_tls_scheme) (view tree.now))) }
-    ensures grows { readings.old ≤ readings.new }
-    ensures at_most { readings.new ≤ readings.old + values (view tree.now) }
-    ensures at_least { IfOk result (λ s. readings.new < u64.MAX
-        → readings.old + schema_count (scheme_object s) ≤ readings.new) }
+    ensures of_type { IfOk result (λ s. type_of s ≡ SchemeType.MutualTls) }
+    ensures reads { Reads (read (named mutual_tls_scheme) (view tree.now)) scheme_object result
+        readings.old readings.new (values (view tree.now)) }
 {
-    if !tree.is_object() {
-        return Err(ReadFault::Kind("SecurityScheme"));
-    }
-    let description = row_option(alloc, tree, "description", readings)?;
-    let deprecated = row_option(alloc, tree, "deprecated", readings)?;
-    let extensions = read_extensions(alloc, tree)?;
+    let names = ["description", "deprecated"];
+    let (rows, extensions) = read_table(alloc, tree, "SecurityScheme", &names, readings)?;
+    let (OptionalField(description), (OptionalField(deprecated), ())) = rows;
     Ok(SecurityScheme::MutualTls {
         description,
         deprecated,
@@ -113,13 +107,9 @@ fn read_scheme(
     tree: &Value,
     readings: &mut Readings,
 ) -> Result<SecurityScheme, ReadFault>
-    ensures ok { IfOk result (λ s. (scheme_word s ≡ scheme_type_text kind)
-        × (read (scheme_kind kind) (view tree.now) ≡ Some (scheme_object s))) }
-    ensures err { IfErr result (Refuses (read (scheme_kind kind) (view tree.now))) }
-    ensures grows { readings.old ≤ readings.new }
-    ensures at_most { readings.new ≤ readings.old + values (view tree.now) }
-    ensures at_least { IfOk result (λ s. readings.new < u64.MAX
-        → readings.old + schema_count (scheme_object s) ≤ readings.new) }
+    ensures of_type { IfOk result (λ s. type_of s ≡ kind) }
+    ensures reads { Reads (read (scheme_kind kind) (view tree.now)) scheme_object result
+        readings.old readings.new (values (view tree.now)) }
 {
     match kind {
         SchemeType::OAuth2 => Ok(SecurityScheme::OAuth2(OAuth2::read_plain(
@@ -136,26 +126,20 @@ fn read_scheme(
     }
 }
 
-#[tactic(auto, using(crate::proofs::Tags::by_tags))]
+#[tactic(auto, using(crate::proofs::SchemeTypes::by_scheme_types))]
 impl Tree for SecurityScheme {
     ghost kind = { security_scheme };
 
     ghost doc = { scheme_doc };
 
-    const IS_SCHEMA: bool = false;
-
-    ghost IS_SCHEMA = { false };
-
     ghost is_of_kind = { scheme_of_kind };
-
-    ghost counts_as_schema = { refl };
 
     fn read_plain(
         alloc: Global,
         tree: &Value,
         readings: &mut Readings,
     ) -> Result<SecurityScheme, ReadFault> {
-        let word = read_tag(tree, "type", "SecurityScheme")?;
+        let word = read_type(tree, "type", "SecurityScheme")?;
         match scheme_type(word) {
             Some(kind) => read_scheme(kind, alloc, tree, readings),
             None => Err(ReadFault::Word("SecurityScheme")),
@@ -165,14 +149,16 @@ impl Tree for SecurityScheme {
     fn to_value(&self, alloc: Global) -> Result<Value, AllocError> {
         match self {
             SecurityScheme::OAuth2(scheme) => {
-                tagged(alloc, "type", "oauth2", scheme.to_value(alloc)?)
+                with_type(alloc, "type", "oauth2", scheme.to_value(alloc)?)
             }
             SecurityScheme::ApiKey(scheme) => {
-                tagged(alloc, "type", "apiKey", scheme.to_value(alloc)?)
+                with_type(alloc, "type", "apiKey", scheme.to_value(alloc)?)
             }
-            SecurityScheme::Http(scheme) => tagged(alloc, "type", "http", scheme.to_value(alloc)?),
+            SecurityScheme::Http(scheme) => {
+                with_type(alloc, "type", "http", scheme.to_value(alloc)?)
+            }
             SecurityScheme::OpenIdConnect(scheme) => {
-                tagged(alloc, "type", "openIdConnect", scheme.to_value(alloc)?)
+                with_type(alloc, "type", "openIdConnect", scheme.to_value(alloc)?)
             }
             SecurityScheme::MutualTls {
                 description,
@@ -180,7 +166,7 @@ impl Tree for SecurityScheme {
                 extensions,
             } => {
                 let written = mutual_tls_value(alloc, description, deprecated, extensions)?;
-                tagged(alloc, "type", "mutualTLS", written)
+                with_type(alloc, "type", "mutualTLS", written)
             }
         }
     }
@@ -203,5 +189,11 @@ impl Tree for SecurityScheme {
                 extensions: clone_extensions(alloc, extensions)?,
             }),
         }
+    }
+}
+
+impl Place for SecurityScheme {
+    fn is_schema() -> bool {
+        false
     }
 }

@@ -1,11 +1,16 @@
 //! The scopes of an OAuth flow.
-ghost use Rattle.std.specs.Prelude.{◌≡◌, [], ◌∷◌, refl, false, IfOk};
+ghost use Rattle.std.specs.Prelude.{◌≡◌, [], ◌∷◌, refl, IfOk, OnOk, OnErr};
 ghost use Rattle.std.specs.Iterator.{IsFinite, Drains};
-ghost use Rattle.utoipa_base.specs.Kinds.{named, scopes_object};
+ghost use Rattle.serde_json.specs.View.{members_view};
+ghost use Rattle.utoipa_base.specs.Fields.{put_field};
+ghost use Rattle.utoipa_base.specs.Kinds.{named, scopes_object, text, map_of, required};
+ghost use Rattle.utoipa_base.specs.Tables.{row};
+ghost use Rattle.utoipa_security.specs.Scopes.{scopes_member};
 
 use serde_json::{Map, Value};
 use std::alloc::{AllocError, Global};
 use std::collections::BTreeMap;
+use utoipa_base::table::{RequiredField, RowField, read_table_alone};
 use utoipa_base::{ReadFault, Readings, Tree, row_required, write_required};
 
 /// The scopes of an OAuth Flow Object (OpenAPI 3.1, section 4.8.29), each by its name with a description: the member
@@ -56,7 +61,6 @@ impl Scopes {
 }
 
 /// An object with the one member `scopes`.
-#[tactic(auto, using(utoipa_base::proofs::ByRows::by_table))]
 impl Tree for Scopes {
     ghost use Rattle.utoipa_security.specs.Scopes.{scopes_doc, scopes_of_kind};
 
@@ -64,23 +68,15 @@ impl Tree for Scopes {
 
     ghost doc = { scopes_doc };
 
-    const IS_SCHEMA: bool = false;
-
-    ghost IS_SCHEMA = { false };
-
     ghost is_of_kind = { scopes_of_kind };
-
-    ghost counts_as_schema = { refl };
 
     fn read_plain(
         alloc: Global,
         tree: &Value,
         readings: &mut Readings,
     ) -> Result<Scopes, ReadFault> {
-        if !tree.is_object() {
-            return Err(ReadFault::Kind("Scopes"));
-        }
-        let scopes = row_required(alloc, tree, "scopes", readings)?;
+        let fields = read_table_alone(alloc, tree, "Scopes", &["scopes"], readings)?;
+        let (RequiredField(scopes), ()) = fields;
         Ok(Scopes { scopes })
     }
 
@@ -91,8 +87,49 @@ impl Tree for Scopes {
     }
 
     fn try_clone(&self, alloc: Global) -> Result<Scopes, AllocError> {
-        Ok(Scopes {
-            scopes: self.scopes.try_clone(alloc)?,
-        })
+        clone_scopes(alloc, self)
     }
+}
+
+/// The scopes of a flow: a required member of it.
+#[derive(Drop)]
+pub(crate) struct ScopesField(pub(crate) Scopes);
+
+impl RowField for ScopesField {
+    ghost line = { λ name. row name required (map_of text) };
+
+    ghost doc = { λ v. scopes_member v.0 };
+
+    fn read(
+        alloc: Global,
+        tree: &Value,
+        name: &'static str,
+        readings: &mut Readings,
+    ) -> Result<ScopesField, ReadFault> {
+        let scopes = row_required(alloc, tree, name, readings)?;
+        Ok(ScopesField(Scopes { scopes }))
+    }
+}
+
+/// Writes the scopes of a flow. Fails where memory runs out; then the members are as they were.
+pub(crate) fn write_scopes(
+    members: &mut Map<String, Value>,
+    alloc: Global,
+    name: &'static str,
+    scopes: &Scopes,
+) -> Result<(), AllocError>
+    ensures ok { OnOk result (members_view members.new.entries
+        ≡ put_field (row name.now required (map_of text)) (scopes_member scopes.now) (members_view members.old.entries)) }
+    ensures err { OnErr result (members.new.entries ≡ members.old.entries) }
+{
+    write_required(members, alloc, name, &scopes.scopes)
+}
+
+/// Equal scopes. Fails where memory runs out.
+pub(crate) fn clone_scopes(alloc: Global, scopes: &Scopes) -> Result<Scopes, AllocError>
+    ensures { IfOk result (λ copy. scopes_member copy ≡ scopes_member scopes.now) }
+{
+    Ok(Scopes {
+        scopes: scopes.scopes.try_clone(alloc)?,
+    })
 }

@@ -1,5 +1,4 @@
-use Rattle.std.proofs.Common.{◌≡◌, refl, None, Some, [], ◌∷◌, ◌++◌, ◌∙◌, ap, sym, subst, append_assoc, string_bytes, string_cmp, rules}
-use Rattle.std.proofs.lemmas.List.{map-append}
+use Rattle.std.proofs.Common.{◌≡◌, refl, None, Some, [], ◌∷◌, ◌++◌, ◌∙◌, ap, sym, subst, string_cmp, rules}
 use Rattle.std.specs.List.Sorted.{IsStrictlySortedBy}
 use Rattle.std.specs.Map.{keys_of}
 use Rattle.serde_json.proofs.Views.{Entry}
@@ -7,9 +6,9 @@ use Rattle.serde_json.specs.Find.{as_object}
 use Rattle.serde_json.specs.View.{view, members_view}
 use Rattle.utoipa_base.specs.Views.{pairs_of}
 use Rattle.utoipa_base.proofs.ByRows.{passes_on}
-use Rattle.utoipa_base.proofs.Maps.{texts, prepend_entries, insert_last}
+use Rattle.utoipa_base.proofs.Maps.{texts, prepend_entries}
 use Rattle.utoipa_security.specs.OAuth.{flow_view, flow_read}
-use Rattle.utoipa_security.proofs.KeyedFlows.{flows_read, flows_read-step, flows_read-stop, flows_read-end, flows_by_entries}
+use Rattle.utoipa_security.proofs.KeyedFlows.{flows_next, flows_read, flows_read-step, flows_read-stop, flows_read-end, flows_by_entries}
 use Rattle.utoipa_security.proofs.security.flows.read_flows.Goals as goal
 
 pub loop-key-init : goal.loop-key-init
@@ -35,28 +34,19 @@ returns-in_err-value-clause-err c =
 pub loop-key-preserved : goal.loop-key-preserved
 loop-key-preserved c =
     let l = c.loop-key in
-    let es = c.into_iter-key-iterator.result in
+    let done = l.invariant.0 in
     let e : Entry = (c.in-Some-2.key.now, c.in-Some-2.member.now) in
     let left = c.next.new.self in
     let ds = pairs_of flow_view l.map.entries in
     let rest : l.key-iterator ≡ e ∷ left = c.in-Some-2.ensures.steps in
-    let is_all : es ≡ c.in-Some.members.now.entries = c.into_iter-key-iterator.ensures.into_iter_gives ∙ c.iter-key-items.ensures.rest in
-    let done = l.invariant.0 in
-    let d = flow_view c.in_ok-value.value in
-    let named : string_bytes c.in_ok-name.name ≡ string_bytes e.0 = c.in_ok-name.ensures.cases in
+    let all : c.into_iter-key-iterator.result ≡ c.in-Some.members.now.entries = c.into_iter-key-iterator.ensures.into_iter_gives ∙ c.iter-key-items.ensures.rest in
+    let ordered = subst (λ r. IsStrictlySortedBy string_cmp (keys_of r)) (sym all) c.iter-key-items.ensures.ordered in
     let keyed = ap (λ k. flow_read k (view e.1)) (sym c.as_str.ensures.value) in
-    let all : es ≡ done ++ e ∷ left = l.invariant.1 ∙ ap (λ r. done ++ r) rest in
-    let sorted = subst (λ r. IsStrictlySortedBy string_cmp (keys_of r)) (sym is_all ∙ all) c.iter-key-items.ensures.ordered in
-    let put : c.insert.new.self.entries ≡ l.map.entries ++ (c.in_ok-name.name, c.in_ok-value.value) ∷ [] =
-    c.in_ok-insert.ensures.entries ∙ insert_last l.map.entries done e left c.in_ok-name.name c.in_ok-value.value l.invariant.2 sorted named in
-    let texts_same : texts l.map.entries ≡ texts done = l.invariant.2 in
-    let same : texts l.map.entries ++ string_bytes c.in_ok-name.name ∷ [] ≡ texts done ++ string_bytes e.0 ∷ [] = ap (λ ts. ts ++ string_bytes c.in_ok-name.name ∷ []) texts_same ∙ ap (λ b. texts done ++ b ∷ []) named in
-    let pairs : pairs_of flow_view c.insert.new.self.entries ≡ ds ++ (string_bytes e.0, d) ∷ [] =
-    ap (pairs_of flow_view) put ∙ map-append _ l.map.entries _ ∙ ap (λ b. ds ++ (b, d) ∷ []) named in (
+    let next = flows_next _ done _ _ _ e left _ _ l.invariant.1 l.invariant.2 rest ordered c.in_ok-name.ensures.cases c.in_ok-insert.ensures.entries in (
       done ++ e ∷ [],
-      all ∙ sym (append_assoc done (e ∷ []) left),
-      ap texts put ∙ map-append _ l.map.entries _ ∙ same ∙ sym (map-append _ done (e ∷ [])),
-      flows_read-step e left ds d _ (l.invariant.3 ∙ ap (λ r. prepend_entries ds (flows_read r)) rest) (keyed ∙ c.in_ok-value.ensures.ok) ∙ ap (λ r. prepend_entries r (flows_read left)) (sym pairs),
+      next.0,
+      next.1,
+      flows_read-step e left ds _ _ (l.invariant.3 ∙ ap (λ r. prepend_entries ds (flows_read r)) rest) (keyed ∙ c.in_ok-value.ensures.ok) ∙ ap (λ r. prepend_entries r (flows_read left)) (sym next.2),
     )
 
 pub returns-clause-ok : goal.returns-clause-ok

@@ -5,6 +5,6 @@ use Rattle.utoipa_security.proofs.security.scheme.mutual_tls_value.Goals as goal
 pub returns : goal.returns
 returns c =
     table_written mutual_tls_scheme _ _ _ _ c.in_ok-members.ensures
-    (rows-cons _ _ _ _ _ _ _ c.in_ok-write_option.ensures
-    (rows-cons _ _ _ _ _ _ _ c.in_ok-write_option-2.ensures
+    (rows-cons _ _ _ _ _ _ _ c.in_ok-write_option.ensures.ok
+    (rows-cons _ _ _ _ _ _ _ c.in_ok-write_option-2.ensures.ok
     (rows-nil _)))

@@ -1,4 +1,3 @@
--- Written by tools/answers.py utoipa_security security/flow ClientCredentials
 use Rattle.utoipa_base.specs.Kinds.{client_credentials_flow}
 use Rattle.utoipa_base.proofs.ByRows.{table_written, rows-cons, rows-nil}
 use Rattle.utoipa_security.proofs.security.flow.ClientCredentialsTree.to_value.Goals as goal
@@ -6,7 +5,7 @@ use Rattle.utoipa_security.proofs.security.flow.ClientCredentialsTree.to_value.G
 pub returns : goal.returns
 returns c =
     table_written client_credentials_flow _ _ _ _ c.in_ok-members.ensures
-    (rows-cons _ _ _ _ _ _ _ c.in_ok-write_required.ensures
-    (rows-cons _ _ _ _ _ _ _ c.in_ok-write_option.ensures
-    (rows-cons _ _ _ _ _ _ _ c.in_ok-write_required-2.ensures
+    (rows-cons _ _ _ _ _ _ _ c.in_ok-write_required.ensures.ok
+    (rows-cons _ _ _ _ _ _ _ c.in_ok-write_option.ensures.ok
+    (rows-cons _ _ _ _ _ _ _ c.in_ok-write_scopes.ensures.ok
     (rows-nil _))))

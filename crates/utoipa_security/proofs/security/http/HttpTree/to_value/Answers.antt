@@ -1,4 +1,3 @@
--- Written by tools/answers.py utoipa_security security/http Http
 use Rattle.utoipa_base.specs.Kinds.{http_scheme}
 use Rattle.utoipa_base.proofs.ByRows.{table_written, rows-cons, rows-nil}
 use Rattle.utoipa_security.proofs.security.http.HttpTree.to_value.Goals as goal
@@ -6,8 +5,8 @@ use Rattle.utoipa_security.proofs.security.http.HttpTree.to_value.Goals as goal
 pub returns : goal.returns
 returns c =
     table_written http_scheme _ _ _ _ c.in_ok-members.ensures
-    (rows-cons _ _ _ _ _ _ _ c.in_ok-write_required.ensures
-    (rows-cons _ _ _ _ _ _ _ c.in_ok-write_option.ensures
-    (rows-cons _ _ _ _ _ _ _ c.in_ok-write_option-2.ensures
-    (rows-cons _ _ _ _ _ _ _ c.in_ok-write_option-3.ensures
+    (rows-cons _ _ _ _ _ _ _ c.in_ok-write_required.ensures.ok
+    (rows-cons _ _ _ _ _ _ _ c.in_ok-write_option.ensures.ok
+    (rows-cons _ _ _ _ _ _ _ c.in_ok-write_option-2.ensures.ok
+    (rows-cons _ _ _ _ _ _ _ c.in_ok-write_option-3.ensures.ok
     (rows-nil _)))))

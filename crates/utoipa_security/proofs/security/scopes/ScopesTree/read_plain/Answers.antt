@@ -1,35 +1,10 @@
--- Written by tools/answers.py utoipa_security security/scopes Scopes
-use Rattle.std.proofs.Common.{◌≡◌, ◌∙◌, is_some, true, sym, arith}
-use Rattle.serde_json.specs.Find.{as_object}
-use Rattle.serde_json.specs.View.{view}
+use Rattle.std.proofs.Common.{refl, arith}
 use Rattle.utoipa_base.specs.Kinds.{scopes_object}
-use Rattle.utoipa_base.proofs.ByRows.{passes_on, table_refused, table_fits, fields-first, fields-fit, fields-nil, read-no_object, no_extensions}
-use Rattle.utoipa_base.proofs.Places.{read_none, read_more, table_counted}
-use Rattle.utoipa_base.proofs.Values.{table_values}
+use Rattle.utoipa_base.proofs.RowLists.{passes_reads, reads_as}
 use Rattle.utoipa_security.proofs.security.scopes.ScopesTree.read_plain.Goals as goal
 
-pub returns-then-not-is_object-clause-err : goal.returns-then-not-is_object-clause-err
-returns-then-not-is_object-clause-err c = read-no_object scopes_object _ (sym c.is_object.ensures ∙ c.if-not-is_object.true)
+pub returns-in_err-fields : goal.returns-in_err-fields
+returns-in_err-fields c = passes_reads _ _ _ _ _ _ _ _ _ _ _ c.from_residual.ensures.1 (c.in_err-fields.ensures scopes_object refl refl) (λ h. h) (omega arith) (omega arith)
 
-pub returns-in_err-scopes-clause-err : goal.returns-in_err-scopes-clause-err
-returns-in_err-scopes-clause-err c = passes_on _ _ _ _ c.from_residual.ensures.1 c.in_err-scopes.ensures.err (λ h. table_refused scopes_object _ (fields-first _ _ _ h))
-
-pub returns-in_err-scopes-clause-at_most : goal.returns-in_err-scopes-clause-at_most
-returns-in_err-scopes-clause-at_most c = omega (arith, table_values scopes_object (view c.args.tree.now))
-
-pub returns-clause-ok : goal.returns-clause-ok
-returns-clause-ok c =
-    let is : is_some (as_object (view c.args.tree.now)) ≡ true = sym c.is_object.ensures ∙ c.if-not-is_object.false in
-    table_fits scopes_object _ _ _ is
-    (fields-fit _ _ _ _ _ c.in_ok-scopes.ensures.ok
-    (fields-nil _))
-    (no_extensions (view c.args.tree.now))
-
-pub returns-clause-at_most : goal.returns-clause-at_most
-returns-clause-at_most c = omega (arith, table_values scopes_object (view c.args.tree.now))
-
-pub returns-clause-at_least : goal.returns-clause-at_least
-returns-clause-at_least c =
-    table_counted _ _ scopes_object _ _
-    (read_more _ _ _ _ _ c.in_ok-scopes.ensures.grows c.in_ok-scopes.ensures.at_least
-    (read_none _))
+pub returns : goal.returns
+returns c = reads_as _ _ _ _ _ _ _ _ refl (c.in_ok-fields.ensures scopes_object refl refl)

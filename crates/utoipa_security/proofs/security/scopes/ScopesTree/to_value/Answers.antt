@@ -1,4 +1,3 @@
--- Written by tools/answers.py utoipa_security security/scopes Scopes
 use Rattle.std.proofs.Common.{◌≡◌, None, rules}
 use Rattle.utoipa_base.specs.Kinds.{scopes_object}
 use Rattle.serde_json.specs.Data.{no_members}
@@ -10,5 +9,5 @@ pub returns : goal.returns
 returns c =
     let none : members_view c.new-members.result.entries ≡ no_members = search rules in
     table_written scopes_object _ None _ _ none
-    (rows-cons _ _ _ _ _ _ _ c.in_ok-write_required.ensures
+    (rows-cons _ _ _ _ _ _ _ c.in_ok-write_required.ensures.ok
     (rows-nil _))

@@ -1,4 +1,4 @@
-//! The member whose word says of which kind a scheme is.
+//! The member whose word says of which type a scheme is: `type`, and `in` of an API key.
 ghost use Rattle.std.specs.Prelude.{◌≡◌, None, Some, option_and_then, IfOk, IfErr};
 ghost use Rattle.serde_json.specs.Data.{string};
 ghost use Rattle.serde_json.specs.Find.{get, as_str};
@@ -14,8 +14,8 @@ use utoipa_base::ReadFault;
 ///
 /// Answers `Kind` with the name of the type where the tree is no object or the member is no text, and `Missing` where
 /// there is no such member.
-#[tactic(auto, using(crate::proofs::Tags::by_tags))]
-pub(crate) fn read_tag<'a>(
+#[tactic(auto, using(crate::proofs::SchemeTypes::by_scheme_types))]
+pub(crate) fn read_type<'a>(
     tree: &'a Value,
     name: &'static str,
     wanted: &'static str,
@@ -33,9 +33,9 @@ pub(crate) fn read_tag<'a>(
     }
 }
 
-/// The written tree of a kind, with the member that says which kind it is.
-#[tactic(auto, using(crate::proofs::Tags::by_tags))]
-pub(crate) fn tagged(
+/// The written members of a scheme, with the member whose word says of which type it is. Fails where memory runs out.
+#[tactic(auto, using(crate::proofs::SchemeTypes::by_scheme_types))]
+pub(crate) fn with_type(
     alloc: Global,
     name: &'static str,
     word: &'static str,
