@@ -7,7 +7,7 @@ use Rattle.utoipa_base.specs.Fields.{field, fields}
 use Rattle.utoipa_base.specs.Kinds.{Kind, Row, required}
 use Rattle.utoipa_base.specs.Reading.{both}
 use Rattle.utoipa_base.specs.Tables.{row}
-use Rattle.utoipa_schema.specs.Plain.{part}
+use Rattle.utoipa_base.specs.Rows.{part}
 
 -- documents, one after the other
 abbrev pub docs_append : Docs → Docs → Docs

@@ -19,11 +19,11 @@ use Rattle.utoipa_schema.specs.declared.types.AdditionalProperties.{AdditionalPr
 use Rattle.utoipa_schema.specs.declared.types.ArrayItems.{ArrayItems}
 use Rattle.utoipa_schema.specs.declared.types.Schema.{Schema}
 use Rattle.utoipa_schema.specs.Folds.{schema-Array, schema-Object}
-use Rattle.utoipa_schema.proofs.RestCounts.{array_counts, object_counts}
+use Rattle.utoipa_schema.proofs.MemberCounts.{array_counts, object_counts}
 use Rattle.utoipa_schema.specs.declared.types.Array.{Array}
 use Rattle.utoipa_schema.specs.declared.types.Object.{Object}
 use Rattle.utoipa_schema.specs.declared.types.Schema as schemas
-use Rattle.utoipa_schema.specs.Plain.{array_head_rows, array_schema_rows, array_annotation_rows, array_limit_rows, content_schema_rows, object_head_rows, object_schema_rows, object_annotation_rows, number_limit_rows, size_limit_rows}
+use Rattle.utoipa_schema.specs.Parts.{array_head_rows, array_schema_rows, array_annotation_rows, item_limit_and_representation_rows, content_schema_rows, object_head_rows, object_schema_rows, object_annotation_rows, number_limit_rows, size_limit_and_content_rows}
 
 -- a schema is one schema more than its table has
 pub counts_one : (d : Doc) → schema_count (docs.schema_doc d) ≡ 1 + schema_count d
@@ -38,11 +38,11 @@ after_tick (Err e) old mid new counted tick grows = tt
 
 -- a tree whose content schema does not fit is no array
 pub no_array : (d : Data) → field content_schema_row d ≡ None → read (named array_schema) d ≡ None
-no_array d e = table_refused array_schema d (join-later array_head_rows _ d (join-later array_schema_rows _ d (join-later array_annotation_rows _ d (join-later array_limit_rows content_schema_rows d (fields-first _ _ d e)))))
+no_array d e = table_refused array_schema d (join-later array_head_rows _ d (join-later array_schema_rows _ d (join-later array_annotation_rows _ d (join-later item_limit_and_representation_rows content_schema_rows d (fields-first _ _ d e)))))
 
 -- nor an object
 pub no_object_table : (d : Data) → field content_schema_row d ≡ None → read (named object_schema) d ≡ None
-no_object_table d e = table_refused object_schema d (join-later object_head_rows _ d (join-later object_schema_rows _ d (join-later object_annotation_rows _ d (join-later number_limit_rows _ d (join-later size_limit_rows content_schema_rows d (fields-first _ _ d e))))))
+no_object_table d e = table_refused object_schema d (join-later object_head_rows _ d (join-later object_schema_rows _ d (join-later object_annotation_rows _ d (join-later number_limit_rows _ d (join-later size_limit_and_content_rows content_schema_rows d (fields-first _ _ d e))))))
 
 -- ---- results
 

@@ -4,4 +4,4 @@ pub mod Docs
 pub mod Folds
 pub mod Layers
 pub mod OfKind
-pub mod Plain
+pub mod Parts

@@ -9,12 +9,14 @@ ghost use Rattle.utoipa_base.specs.Views.{option_of, list_of_docs, map_of_docs};
 ghost use Rattle.utoipa_schema.specs.Choice.{content_schema_doc};
 ghost use Rattle.utoipa_schema.specs.Docs.{boxed, places_doc, additional_properties_doc, schema_doc, array_items_doc, one_of_doc, all_of_doc, any_of_doc, array_doc, object_doc};
 
-use crate::plain::array::{clone_array_annotations, clone_array_head, clone_array_limits};
-use crate::plain::combination::clone_combination;
-use crate::plain::object::{
-    clone_number_limits, clone_object_annotations, clone_object_head, clone_size_limits,
-};
 use crate::types::{AdditionalProperties, AllOf, AnyOf, Array, ArrayItems, Object, OneOf, Schema};
+use crate::without_schemas::array::{
+    clone_array_annotations, clone_array_head, clone_item_limits_and_representation,
+};
+use crate::without_schemas::combination::clone_combination;
+use crate::without_schemas::object::{
+    clone_number_limits, clone_object_annotations, clone_object_head, clone_size_limits_and_content,
+};
 use std::alloc::{AllocError, Global};
 use std::collections::BTreeMap;
 use utoipa_base::{RefOr, Tree, clone_extensions, clone_option};
@@ -240,7 +242,7 @@ fn clone_one_of_with(
 {
     let schema_type = one_of.schema_type.try_clone(alloc)?;
     let title = clone_option(alloc, &one_of.title)?;
-    let rest = clone_combination(
+    let combination = clone_combination(
         alloc,
         &one_of.description,
         &one_of.default,
@@ -255,11 +257,11 @@ fn clone_one_of_with(
         items,
         schema_type,
         title,
-        description: rest.description,
-        default: rest.default,
-        example: rest.example,
-        examples: rest.examples,
-        discriminator: rest.discriminator,
+        description: combination.description,
+        default: combination.default,
+        example: combination.example,
+        examples: combination.examples,
+        discriminator: combination.discriminator,
         read_only,
         write_only,
         extensions,
@@ -277,7 +279,7 @@ fn clone_all_of_with(
 {
     let schema_type = all_of.schema_type.try_clone(alloc)?;
     let title = clone_option(alloc, &all_of.title)?;
-    let rest = clone_combination(
+    let combination = clone_combination(
         alloc,
         &all_of.description,
         &all_of.default,
@@ -290,11 +292,11 @@ fn clone_all_of_with(
         items,
         schema_type,
         title,
-        description: rest.description,
-        default: rest.default,
-        example: rest.example,
-        examples: rest.examples,
-        discriminator: rest.discriminator,
+        description: combination.description,
+        default: combination.default,
+        example: combination.example,
+        examples: combination.examples,
+        discriminator: combination.discriminator,
         extensions,
     })
 }
@@ -309,7 +311,7 @@ fn clone_any_of_with(
         → any_of_doc copy ≡ any_of_doc any_of.now) }
 {
     let schema_type = any_of.schema_type.try_clone(alloc)?;
-    let rest = clone_combination(
+    let combination = clone_combination(
         alloc,
         &any_of.description,
         &any_of.default,
@@ -321,11 +323,11 @@ fn clone_any_of_with(
     Ok(AnyOf {
         items,
         schema_type,
-        description: rest.description,
-        default: rest.default,
-        example: rest.example,
-        examples: rest.examples,
-        discriminator: rest.discriminator,
+        description: combination.description,
+        default: combination.default,
+        example: combination.example,
+        examples: combination.examples,
+        discriminator: combination.discriminator,
         extensions,
     })
 }
@@ -345,7 +347,7 @@ fn clone_array_with(
 {
     let head = clone_array_head(alloc, array)?;
     let annotations = clone_array_annotations(alloc, array)?;
-    let limits = clone_array_limits(alloc, array)?;
+    let limits = clone_item_limits_and_representation(alloc, array)?;
     let extensions = clone_extensions(alloc, &array.extensions)?;
     Ok(Array {
         schema_type: head.schema_type,
@@ -388,7 +390,7 @@ fn clone_object_with(
     let head = clone_object_head(alloc, object)?;
     let annotations = clone_object_annotations(alloc, object)?;
     let numbers = clone_number_limits(alloc, object)?;
-    let sizes = clone_size_limits(alloc, object)?;
+    let sizes = clone_size_limits_and_content(alloc, object)?;
     let extensions = clone_extensions(alloc, &object.extensions)?;
     Ok(Object {
         schema_type: head.schema_type,

@@ -4,15 +4,15 @@
 pub mod all_of;
 pub mod any_of;
 pub mod array;
+mod assemble;
 pub mod conversions;
 mod copy;
 pub mod object;
 pub mod one_of;
-mod plain;
 mod read;
-mod rest;
 pub mod trees;
 pub mod types;
+mod without_schemas;
 mod write;
 
 pub use all_of::AllOfBuilder;

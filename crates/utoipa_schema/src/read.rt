@@ -15,9 +15,9 @@ ghost use Rattle.utoipa_base.specs.Views.{option_of, list_of_docs, map_of_docs};
 ghost use Rattle.utoipa_schema.specs.Choice.{IsNoCombination, ContentSchema, content_schema_doc, content_schema_row, HasContent};
 ghost use Rattle.utoipa_schema.specs.Docs.{boxed, places_doc, additional_properties_doc, schema_doc, array_items_doc, one_of_doc, all_of_doc, any_of_doc, array_doc, object_doc};
 
-use crate::rest::{
-    all_of_rest, any_of_rest, array_rest, array_with_content, may_be_object, object_rest,
-    object_with_content, one_of_rest,
+use crate::assemble::{
+    array_with_content, assemble_all_of, assemble_any_of, assemble_array, assemble_object,
+    assemble_one_of, may_be_object, object_with_content,
 };
 use crate::types::{AdditionalProperties, AllOf, AnyOf, Array, ArrayItems, Object, OneOf, Schema};
 use serde_json::Value;
@@ -164,7 +164,7 @@ pub(crate) fn read_one_of(
         return Err(ReadFault::Kind("OneOf"));
     }
     let items = read_items_of(alloc, tree, "oneOf", readings)?;
-    one_of_rest(alloc, tree, items)
+    assemble_one_of(alloc, tree, items)
 }
 
 /// A schema with `allOf`.
@@ -185,7 +185,7 @@ pub(crate) fn read_all_of(
         return Err(ReadFault::Kind("AllOf"));
     }
     let items = read_items_of(alloc, tree, "allOf", readings)?;
-    all_of_rest(alloc, tree, items)
+    assemble_all_of(alloc, tree, items)
 }
 
 /// A schema with `anyOf`.
@@ -206,7 +206,7 @@ pub(crate) fn read_any_of(
         return Err(ReadFault::Kind("AnyOf"));
     }
     let items = read_items_of(alloc, tree, "anyOf", readings)?;
-    any_of_rest(alloc, tree, items)
+    assemble_any_of(alloc, tree, items)
 }
 
 /// An array with no content schema. With any that the tree has it is the array that the tree is.
@@ -230,7 +230,7 @@ fn array_without_content(
     }
     let items = read_items_member(alloc, tree, readings)?;
     let prefix_items = read_prefix_items(alloc, tree, readings)?;
-    array_rest(alloc, tree, items, prefix_items)
+    assemble_array(alloc, tree, items, prefix_items)
 }
 
 /// An object with no content schema. With any that the tree has it is the object that the tree is.
@@ -252,7 +252,7 @@ fn object_without_content(
     let properties = read_properties_member(alloc, tree, readings)?;
     let additional_properties = read_additional_member(alloc, tree, readings)?;
     let property_names = read_property_names(alloc, tree, readings)?;
-    object_rest(
+    assemble_object(
         alloc,
         tree,
         properties,

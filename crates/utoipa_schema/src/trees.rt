@@ -1,7 +1,7 @@
 //! Schemas are read from trees and written as trees.
 //!
 //! A tree that fits no alternative of a schema is refused as `Alternative`, whatever failed inside.
-ghost use Rattle.std.specs.Prelude.{◌≡◌, ◌≤◌, ◌<◌, ◌+◌, Some, IfOk, IfErr, refl, true, false};
+ghost use Rattle.std.specs.Prelude.{◌≡◌, ◌≤◌, ◌<◌, ◌+◌, Some, IfOk, IfErr};
 ghost use Rattle.serde_json.specs.View.{view};
 ghost use Rattle.utoipa_base.specs.Faults.{Refuses};
 ghost use Rattle.utoipa_base.specs.Reading.{read as read_as};
@@ -15,7 +15,7 @@ use crate::{copy, read, write};
 use serde_json::Value;
 use std::alloc::{AllocError, Global};
 use std::collections::BTreeMap;
-use utoipa_base::{ReadFault, Readings, RefOr, Tree};
+use utoipa_base::{Place, ReadFault, Readings, RefOr, Tree};
 
 /// A schema, by the first alternative that fits (OpenAPI 3.1, section 4.8.24).
 impl Tree for Schema {
@@ -23,13 +23,7 @@ impl Tree for Schema {
 
     ghost doc = { schema_doc };
 
-    const IS_SCHEMA: bool = true;
-
-    ghost IS_SCHEMA = { true };
-
     ghost is_of_kind = { schema_of_kind };
-
-    ghost counts_as_schema = { refl };
 
     fn read_plain(
         alloc: Global,
@@ -37,15 +31,6 @@ impl Tree for Schema {
         readings: &mut Readings,
     ) -> Result<Schema, ReadFault> {
         read::read_schema(alloc, tree, readings)
-    }
-
-    // A place is counted once, a reference too.
-    fn read_ref_or(
-        alloc: Global,
-        tree: &Value,
-        readings: &mut Readings,
-    ) -> Result<RefOr<Schema>, ReadFault> {
-        read::read_place(alloc, tree, readings)
     }
 
     fn to_value(&self, alloc: Global) -> Result<Value, AllocError> {
@@ -57,19 +42,29 @@ impl Tree for Schema {
     }
 }
 
+/// A schema may stand where a reference could.
+impl Place for Schema {
+    fn is_schema() -> bool {
+        true
+    }
+
+    // A place is counted once, a reference too.
+    fn read_ref_or(
+        alloc: Global,
+        tree: &Value,
+        readings: &mut Readings,
+    ) -> Result<RefOr<Schema>, ReadFault> {
+        read::read_place(alloc, tree, readings)
+    }
+}
+
 /// A schema that is no combination and no array, by its member table alone.
 impl Tree for Object {
     ghost kind = { named object_schema };
 
     ghost doc = { object_doc };
 
-    const IS_SCHEMA: bool = false;
-
-    ghost IS_SCHEMA = { false };
-
     ghost is_of_kind = { object_of_kind };
-
-    ghost counts_as_schema = { refl };
 
     fn read_plain(
         alloc: Global,
@@ -94,13 +89,7 @@ impl Tree for Array {
 
     ghost doc = { array_doc };
 
-    const IS_SCHEMA: bool = false;
-
-    ghost IS_SCHEMA = { false };
-
     ghost is_of_kind = { array_of_kind };
-
-    ghost counts_as_schema = { refl };
 
     fn read_plain(
         alloc: Global,
@@ -125,13 +114,7 @@ impl Tree for OneOf {
 
     ghost doc = { one_of_doc };
 
-    const IS_SCHEMA: bool = false;
-
-    ghost IS_SCHEMA = { false };
-
     ghost is_of_kind = { one_of_of_kind };
-
-    ghost counts_as_schema = { refl };
 
     fn read_plain(
         alloc: Global,
@@ -156,13 +139,7 @@ impl Tree for AllOf {
 
     ghost doc = { all_of_doc };
 
-    const IS_SCHEMA: bool = false;
-
-    ghost IS_SCHEMA = { false };
-
     ghost is_of_kind = { all_of_of_kind };
-
-    ghost counts_as_schema = { refl };
 
     fn read_plain(
         alloc: Global,
@@ -187,13 +164,7 @@ impl Tree for AnyOf {
 
     ghost doc = { any_of_doc };
 
-    const IS_SCHEMA: bool = false;
-
-    ghost IS_SCHEMA = { false };
-
     ghost is_of_kind = { any_of_of_kind };
-
-    ghost counts_as_schema = { refl };
 
     fn read_plain(
         alloc: Global,
@@ -218,13 +189,7 @@ impl Tree for ArrayItems {
 
     ghost doc = { array_items_doc };
 
-    const IS_SCHEMA: bool = false;
-
-    ghost IS_SCHEMA = { false };
-
     ghost is_of_kind = { array_items_of_kind };
-
-    ghost counts_as_schema = { refl };
 
     fn read_plain(
         alloc: Global,
@@ -249,13 +214,7 @@ impl Tree for AdditionalProperties<Schema> {
 
     ghost doc = { additional_properties_doc schema_doc };
 
-    const IS_SCHEMA: bool = false;
-
-    ghost IS_SCHEMA = { false };
-
     ghost is_of_kind = { additional_properties_of_kind };
-
-    ghost counts_as_schema = { refl };
 
     fn read_plain(
         alloc: Global,

@@ -10,12 +10,14 @@ ghost use Rattle.utoipa_base.specs.Writing.{write};
 ghost use Rattle.utoipa_schema.specs.Choice.{content_schema_doc, content_schema_row};
 ghost use Rattle.utoipa_schema.specs.Docs.{boxed, places_doc, additional_properties_doc, schema_doc, array_items_doc, one_of_doc, all_of_doc, any_of_doc, array_doc, object_doc};
 
-use crate::plain::array::{write_array_annotations, write_array_head, write_array_limits};
-use crate::plain::combination::write_combination;
-use crate::plain::object::{
-    write_number_limits, write_object_annotations, write_object_head, write_size_limits,
-};
 use crate::types::{AdditionalProperties, AllOf, AnyOf, Array, ArrayItems, Object, OneOf, Schema};
+use crate::without_schemas::array::{
+    write_array_annotations, write_array_head, write_item_limits_and_representation,
+};
+use crate::without_schemas::combination::write_combination;
+use crate::without_schemas::object::{
+    write_number_limits, write_object_annotations, write_object_head, write_size_limits_and_content,
+};
 use serde_json::{Map, Value, put};
 use std::alloc::{AllocError, Global};
 use std::collections::BTreeMap;
@@ -280,7 +282,7 @@ pub(crate) fn write_array(alloc: Global, array: &Array) -> Result<Value, AllocEr
     put(&mut members, alloc, "items", items)?;
     put_prefix_items(&mut members, alloc, &array.prefix_items)?;
     write_array_annotations(&mut members, alloc, array)?;
-    write_array_limits(&mut members, alloc, array)?;
+    write_item_limits_and_representation(&mut members, alloc, array)?;
     put_content_schema(&mut members, alloc, &array.content_schema)?;
     Ok(Value::Object(members))
 }
@@ -297,7 +299,7 @@ pub(crate) fn write_object(alloc: Global, object: &Object) -> Result<Value, Allo
     put_property_names(&mut members, alloc, &object.property_names)?;
     write_object_annotations(&mut members, alloc, object)?;
     write_number_limits(&mut members, alloc, object)?;
-    write_size_limits(&mut members, alloc, object)?;
+    write_size_limits_and_content(&mut members, alloc, object)?;
     put_content_schema(&mut members, alloc, &object.content_schema)?;
     Ok(Value::Object(members))
 }

@@ -7,5 +7,5 @@ returns c = λ items.
     same_table all_of_schema _ _ _ _
     (same_field _ _ _ _ items
     (same_field _ _ _ _ c.in_ok-schema_type.ensures
-    (same_field _ _ _ _ c.in_ok-title.ensures c.in_ok-rest.ensures)))
+    (same_field _ _ _ _ c.in_ok-title.ensures c.in_ok-combination.ensures)))
     c.in_ok-extensions.ensures

@@ -6,5 +6,5 @@ pub returns : goal.returns
 returns c = λ items.
     same_table any_of_schema _ _ _ _
     (same_field _ _ _ _ items
-    (same_field _ _ _ _ c.in_ok-schema_type.ensures c.in_ok-rest.ensures))
+    (same_field _ _ _ _ c.in_ok-schema_type.ensures c.in_ok-combination.ensures))
     c.in_ok-extensions.ensures

@@ -1,6 +1,6 @@
 use Rattle.std.proofs.Common.{refl}
 use Rattle.utoipa_base.specs.Kinds.{array_schema}
-use Rattle.utoipa_schema.specs.Plain.{array_head_docs, head_of_array, array_annotation_docs, annotations_of_array, array_limit_docs, limits_of_array}
+use Rattle.utoipa_schema.specs.Parts.{array_head_docs, head_of_array, array_annotation_docs, annotations_of_array, item_limit_and_representation_docs, item_limits_and_representation_of_array}
 use Rattle.utoipa_schema.proofs.CopyParts.{same_field, same_part, same_table}
 use Rattle.utoipa_schema.proofs.copy.clone_array_with.Goals as goal
 
@@ -11,6 +11,6 @@ returns c = λ items prefix_items content_schema.
     (same_field _ _ _ _ items
     (same_field _ _ _ _ prefix_items
     (same_part (array_annotation_docs c.in_ok-annotations.annotations) (array_annotation_docs (annotations_of_array c.args.array.now)) _ _ c.in_ok-annotations.ensures
-    (same_part (array_limit_docs c.in_ok-limits.limits) (array_limit_docs (limits_of_array c.args.array.now)) _ _ c.in_ok-limits.ensures
+    (same_part (item_limit_and_representation_docs c.in_ok-limits.limits) (item_limit_and_representation_docs (item_limits_and_representation_of_array c.args.array.now)) _ _ c.in_ok-limits.ensures
     (same_field _ _ _ _ content_schema refl))))))
     c.in_ok-extensions.ensures

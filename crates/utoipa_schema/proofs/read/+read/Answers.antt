@@ -25,10 +25,10 @@ use Rattle.utoipa_base.specs.Fields.{field}
 use Rattle.utoipa_schema.specs.Docs.{schema_doc, additional_properties_doc, one_of_doc, all_of_doc, any_of_doc, array_doc, object_doc, places_doc}
 use Rattle.utoipa_schema.specs.Folds.{schema-Array, schema-Object, schema-OneOf, schema-AllOf, schema-AnyOf, items-False, items-RefOrSchema}
 use Rattle.utoipa_schema.proofs.Choices.{as_one_of, as_all_of, as_any_of, as_array as by_array, as_an_object, no_object, no_schema, items_false, items_true, items_place, additional_flag, additional_place}
-use Rattle.utoipa_schema.proofs.RestCounts.{one_of_counts, all_of_counts, any_of_counts}
+use Rattle.utoipa_schema.proofs.MemberCounts.{one_of_counts, all_of_counts, any_of_counts}
 use Rattle.utoipa_schema.proofs.SchemaCounts.{after_tick, counts_one, no_array, no_object_table, if_ok, counted_as, single_array, single_object, array_kept, object_kept}
 use Rattle.utoipa_schema.proofs.Joins.{join-later}
-use Rattle.utoipa_schema.specs.Plain.{array_head_rows, object_head_rows}
+use Rattle.utoipa_schema.specs.Parts.{array_head_rows, object_head_rows}
 use Rattle.utoipa_schema.proofs.SchemaMembers.{schema_values, member_at, count_at, one_fewer, field_required, field_defaulted, field_optional, field_null, field_absent, list_none, map_none}
 use Rattle.utoipa_schema.specs.declared.types.Schema as schemas
 use Rattle.utoipa_schema.proofs.read.+read.Goals as goal
@@ -940,11 +940,11 @@ pub read_one_of-returns-in_err-items-clause-err : goal.read_one_of-returns-in_er
 read_one_of-returns-in_err-items-clause-err t c = passes_on _ _ _ _ c.from_residual.ensures.1 c.in_err-items.ensures.err (λ h. table_refused one_of_schema _ (fields-first _ _ _ h))
 
 pub read_one_of-returns-clause-ok : goal.read_one_of-returns-clause-ok
-read_one_of-returns-clause-ok t c = if_ok _ _ c.one_of_rest.result c.one_of_rest.ensures.ok (λ o h. h c.in_ok-items.ensures.ok)
+read_one_of-returns-clause-ok t c = if_ok _ _ c.assemble_one_of.result c.assemble_one_of.ensures.ok (λ o h. h c.in_ok-items.ensures.ok)
 
 pub read_one_of-returns-clause-at_least : goal.read_one_of-returns-clause-at_least
-read_one_of-returns-clause-at_least t c = counted_as one_of_doc c.one_of_rest.result c.args.readings.now c.read_items_of.new.readings (schema_count (places_doc schema_doc c.in_ok-items.items))
-    (if_ok _ _ c.one_of_rest.result c.one_of_rest.ensures.kept (λ o k. one_of_counts o ∙ ap (λ v. schema_count (places_doc schema_doc v)) k)) c.in_ok-items.ensures.at_least
+read_one_of-returns-clause-at_least t c = counted_as one_of_doc c.assemble_one_of.result c.args.readings.now c.read_items_of.new.readings (schema_count (places_doc schema_doc c.in_ok-items.items))
+    (if_ok _ _ c.assemble_one_of.result c.assemble_one_of.ensures.kept (λ o k. one_of_counts o ∙ ap (λ v. schema_count (places_doc schema_doc v)) k)) c.in_ok-items.ensures.at_least
 
 pub read_all_of-returns-then-not-is_object-clause-err : goal.read_all_of-returns-then-not-is_object-clause-err
 read_all_of-returns-then-not-is_object-clause-err t c = read-no_object all_of_schema _ (sym c.is_object.ensures ∙ c.if-not-is_object.true)
@@ -953,11 +953,11 @@ pub read_all_of-returns-in_err-items-clause-err : goal.read_all_of-returns-in_er
 read_all_of-returns-in_err-items-clause-err t c = passes_on _ _ _ _ c.from_residual.ensures.1 c.in_err-items.ensures.err (λ h. table_refused all_of_schema _ (fields-first _ _ _ h))
 
 pub read_all_of-returns-clause-ok : goal.read_all_of-returns-clause-ok
-read_all_of-returns-clause-ok t c = if_ok _ _ c.all_of_rest.result c.all_of_rest.ensures.ok (λ o h. h c.in_ok-items.ensures.ok)
+read_all_of-returns-clause-ok t c = if_ok _ _ c.assemble_all_of.result c.assemble_all_of.ensures.ok (λ o h. h c.in_ok-items.ensures.ok)
 
 pub read_all_of-returns-clause-at_least : goal.read_all_of-returns-clause-at_least
-read_all_of-returns-clause-at_least t c = counted_as all_of_doc c.all_of_rest.result c.args.readings.now c.read_items_of.new.readings (schema_count (places_doc schema_doc c.in_ok-items.items))
-    (if_ok _ _ c.all_of_rest.result c.all_of_rest.ensures.kept (λ o k. all_of_counts o ∙ ap (λ v. schema_count (places_doc schema_doc v)) k)) c.in_ok-items.ensures.at_least
+read_all_of-returns-clause-at_least t c = counted_as all_of_doc c.assemble_all_of.result c.args.readings.now c.read_items_of.new.readings (schema_count (places_doc schema_doc c.in_ok-items.items))
+    (if_ok _ _ c.assemble_all_of.result c.assemble_all_of.ensures.kept (λ o k. all_of_counts o ∙ ap (λ v. schema_count (places_doc schema_doc v)) k)) c.in_ok-items.ensures.at_least
 
 pub read_any_of-returns-then-not-is_object-clause-err : goal.read_any_of-returns-then-not-is_object-clause-err
 read_any_of-returns-then-not-is_object-clause-err t c = read-no_object any_of_schema _ (sym c.is_object.ensures ∙ c.if-not-is_object.true)
@@ -966,11 +966,11 @@ pub read_any_of-returns-in_err-items-clause-err : goal.read_any_of-returns-in_er
 read_any_of-returns-in_err-items-clause-err t c = passes_on _ _ _ _ c.from_residual.ensures.1 c.in_err-items.ensures.err (λ h. table_refused any_of_schema _ (fields-first _ _ _ h))
 
 pub read_any_of-returns-clause-ok : goal.read_any_of-returns-clause-ok
-read_any_of-returns-clause-ok t c = if_ok _ _ c.any_of_rest.result c.any_of_rest.ensures.ok (λ o h. h c.in_ok-items.ensures.ok)
+read_any_of-returns-clause-ok t c = if_ok _ _ c.assemble_any_of.result c.assemble_any_of.ensures.ok (λ o h. h c.in_ok-items.ensures.ok)
 
 pub read_any_of-returns-clause-at_least : goal.read_any_of-returns-clause-at_least
-read_any_of-returns-clause-at_least t c = counted_as any_of_doc c.any_of_rest.result c.args.readings.now c.read_items_of.new.readings (schema_count (places_doc schema_doc c.in_ok-items.items))
-    (if_ok _ _ c.any_of_rest.result c.any_of_rest.ensures.kept (λ o k. any_of_counts o ∙ ap (λ v. schema_count (places_doc schema_doc v)) k)) c.in_ok-items.ensures.at_least
+read_any_of-returns-clause-at_least t c = counted_as any_of_doc c.assemble_any_of.result c.args.readings.now c.read_items_of.new.readings (schema_count (places_doc schema_doc c.in_ok-items.items))
+    (if_ok _ _ c.assemble_any_of.result c.assemble_any_of.ensures.kept (λ o k. any_of_counts o ∙ ap (λ v. schema_count (places_doc schema_doc v)) k)) c.in_ok-items.ensures.at_least
 
 pub array_without_content-returns-then-not-is_object-clause-err : goal.array_without_content-returns-then-not-is_object-clause-err
 array_without_content-returns-then-not-is_object-clause-err t c = read-no_object array_schema _ (sym c.is_object.ensures ∙ c.if-not-is_object.true)
@@ -982,13 +982,13 @@ pub array_without_content-returns-in_err-prefix_items-clause-err : goal.array_wi
 array_without_content-returns-in_err-prefix_items-clause-err t c = passes_on _ _ _ _ c.from_residual-in_err-prefix_items.ensures.1 c.in_err-prefix_items.ensures.err (λ h. table_refused array_schema _ (join-later array_head_rows _ _ (fields-later _ _ _ (fields-first _ _ _ h))))
 
 pub array_without_content-returns-clause-ok : goal.array_without_content-returns-clause-ok
-array_without_content-returns-clause-ok t c = if_ok _ _ c.array_rest.result c.array_rest.ensures.ok (λ a h content has. h content has c.in_ok-items.ensures.ok c.in_ok-prefix_items.ensures.ok)
+array_without_content-returns-clause-ok t c = if_ok _ _ c.assemble_array.result c.assemble_array.ensures.ok (λ a h content has. h content has c.in_ok-items.ensures.ok c.in_ok-prefix_items.ensures.ok)
 
 pub array_without_content-returns-clause-without : goal.array_without_content-returns-clause-without
-array_without_content-returns-clause-without t c = if_ok _ _ c.array_rest.result c.array_rest.ensures.kept (λ a k. k.2)
+array_without_content-returns-clause-without t c = if_ok _ _ c.assemble_array.result c.assemble_array.ensures.kept (λ a k. k.2)
 
 pub array_without_content-returns-clause-at_least : goal.array_without_content-returns-clause-at_least
-array_without_content-returns-clause-at_least t c = if_ok _ _ c.array_rest.result c.array_rest.ensures.kept
+array_without_content-returns-clause-at_least t c = if_ok _ _ c.assemble_array.result c.assemble_array.ensures.kept
     (λ a k. array_kept a c.in_ok-items.items c.in_ok-prefix_items.prefix_items c.args.readings.now c.read_items_member.new.readings c.read_prefix_items.new.readings k c.in_ok-items.ensures.at_least c.in_ok-prefix_items.ensures.grows c.in_ok-prefix_items.ensures.at_least)
 
 pub object_without_content-returns-in_err-properties-clause-err : goal.object_without_content-returns-in_err-properties-clause-err
@@ -1001,13 +1001,13 @@ pub object_without_content-returns-in_err-property_names-clause-err : goal.objec
 object_without_content-returns-in_err-property_names-clause-err t c = passes_on _ _ _ _ c.from_residual-in_err-property_names.ensures.1 c.in_err-property_names.ensures.err (λ h. table_refused object_schema _ (join-later object_head_rows _ _ (fields-later _ _ _ (fields-later _ _ _ (fields-first _ _ _ h)))))
 
 pub object_without_content-returns-clause-ok : goal.object_without_content-returns-clause-ok
-object_without_content-returns-clause-ok t c = if_ok _ _ c.object_rest.result c.object_rest.ensures.ok (λ o h content has. h content has c.in_ok-properties.ensures.ok c.in_ok-additional_properties.ensures.ok c.in_ok-property_names.ensures.ok)
+object_without_content-returns-clause-ok t c = if_ok _ _ c.assemble_object.result c.assemble_object.ensures.ok (λ o h content has. h content has c.in_ok-properties.ensures.ok c.in_ok-additional_properties.ensures.ok c.in_ok-property_names.ensures.ok)
 
 pub object_without_content-returns-clause-without : goal.object_without_content-returns-clause-without
-object_without_content-returns-clause-without t c = if_ok _ _ c.object_rest.result c.object_rest.ensures.kept (λ o k. k.3)
+object_without_content-returns-clause-without t c = if_ok _ _ c.assemble_object.result c.assemble_object.ensures.kept (λ o k. k.3)
 
 pub object_without_content-returns-clause-at_least : goal.object_without_content-returns-clause-at_least
-object_without_content-returns-clause-at_least t c = if_ok _ _ c.object_rest.result c.object_rest.ensures.kept
+object_without_content-returns-clause-at_least t c = if_ok _ _ c.assemble_object.result c.assemble_object.ensures.kept
     (λ o k. object_kept o c.in_ok-properties.properties c.in_ok-additional_properties.additional_properties c.in_ok-property_names.property_names c.args.readings.now c.read_properties_member.new.readings c.read_additional_member.new.readings c.read_property_names.new.readings k
     c.in_ok-properties.ensures.at_least c.in_ok-additional_properties.ensures.grows c.in_ok-additional_properties.ensures.at_least c.in_ok-property_names.ensures.grows c.in_ok-property_names.ensures.at_least)
 

@@ -21,7 +21,7 @@ use Rattle.utoipa_base.proofs.Maps.{members_by, put_last, write-map_of_entries}
 use Rattle.utoipa_base.proofs.Places.{write-ref, write-own}
 use Rattle.utoipa_schema.specs.Docs.{boxed, schema_doc, places_doc, array_items_doc, additional_properties_doc, one_of_doc, all_of_doc, any_of_doc, array_doc, object_doc}
 use Rattle.utoipa_schema.specs.Folds.{schema-Array, schema-Object, schema-OneOf, schema-AllOf, schema-AnyOf, items-False, items-RefOrSchema}
-use Rattle.utoipa_schema.specs.Plain.{combination_docs, combination_rows, combination_of_rows, combination_of_one_of, array_head_docs, array_head_rows, array_head_of_rows, head_of_array, array_annotation_docs, array_annotation_rows, array_annotation_of_rows, annotations_of_array, array_limit_docs, array_limit_rows, array_limit_of_rows, limits_of_array, object_head_docs, object_head_rows, object_head_of_rows, head_of_object, object_annotation_docs, object_annotation_rows, object_annotation_of_rows, annotations_of_object, number_limit_docs, number_limit_rows, number_limit_of_rows, number_limits_of_object, size_limit_docs, size_limit_rows, size_limit_of_rows, size_limits_of_object}
+use Rattle.utoipa_schema.specs.Parts.{combination_docs, combination_rows, combination_of_rows, combination_of_one_of, array_head_docs, array_head_rows, array_head_of_rows, head_of_array, array_annotation_docs, array_annotation_rows, array_annotation_of_rows, annotations_of_array, item_limit_and_representation_docs, item_limit_and_representation_rows, item_limit_and_representation_of_rows, item_limits_and_representation_of_array, object_head_docs, object_head_rows, object_head_of_rows, head_of_object, object_annotation_docs, object_annotation_rows, object_annotation_of_rows, annotations_of_object, number_limit_docs, number_limit_rows, number_limit_of_rows, number_limits_of_object, size_limit_and_content_docs, size_limit_and_content_rows, size_limit_and_content_of_rows, size_limits_and_content_of_object}
 use Rattle.utoipa_schema.specs.declared.types.Schema.{Schema}
 use Rattle.utoipa_schema.proofs.Weights.{weight, lighter_item, lighter_member, lighter_some, lighter_schema, lighter_own, lighter_one_of, lighter_all_of, lighter_any_of, lighter_array, lighter_object}
 use Rattle.utoipa_schema.proofs.WriteParts.{write-schema, rows-part, required_written, optional_written, default_written, on_ok, view-Bool}
@@ -203,11 +203,11 @@ pub write_one_of-returns : goal.write_one_of-returns
 write_one_of-returns t c =
     table_written one_of_schema _ _ _ _ c.in_ok-members.ensures
     (rows-cons _ _ _ _ _ _ _ (required_written (codes "oneOf") (list_of (ref_or schema)) (places_doc schema_doc c.args.one_of.now.items) (view c.in_ok-items.items) _ _ c.in_ok-put.ensures.ok c.in_ok-items.ensures)
-    (rows-cons _ _ _ _ _ _ _ c.in_ok-write_unless_empty.ensures
-    (rows-cons _ _ _ _ _ _ _ c.in_ok-write_option.ensures
+    (rows-cons _ _ _ _ _ _ _ c.in_ok-write_unless_empty.ensures.ok
+    (rows-cons _ _ _ _ _ _ _ c.in_ok-write_option.ensures.ok
     (rows-part (combination_docs (combination_of_one_of c.args.one_of.now)) combination_rows (combination_of_rows (combination_of_one_of c.args.one_of.now)) _ _ _ _ _ c.in_ok-write_combination.ensures
-    (rows-cons _ _ _ _ _ _ _ c.in_ok-write_option-2.ensures
-    (rows-cons _ _ _ _ _ _ _ c.in_ok-write_option-3.ensures
+    (rows-cons _ _ _ _ _ _ _ c.in_ok-write_option-2.ensures.ok
+    (rows-cons _ _ _ _ _ _ _ c.in_ok-write_option-3.ensures.ok
     (rows-nil _)))))))
 
 pub write_all_of-write_places-requires : goal.write_all_of-write_places-requires
@@ -217,8 +217,8 @@ pub write_all_of-returns : goal.write_all_of-returns
 write_all_of-returns t c =
     table_written all_of_schema _ _ _ _ c.in_ok-members.ensures
     (rows-cons _ _ _ _ _ _ _ (required_written (codes "allOf") (list_of (ref_or schema)) (places_doc schema_doc c.args.all_of.now.items) (view c.in_ok-items.items) _ _ c.in_ok-put.ensures.ok c.in_ok-items.ensures)
-    (rows-cons _ _ _ _ _ _ _ c.in_ok-write_unless_empty.ensures
-    (rows-cons _ _ _ _ _ _ _ c.in_ok-write_option.ensures
+    (rows-cons _ _ _ _ _ _ _ c.in_ok-write_unless_empty.ensures.ok
+    (rows-cons _ _ _ _ _ _ _ c.in_ok-write_option.ensures.ok
     (sym c.in_ok-write_combination.ensures))))
 
 pub write_any_of-write_places-requires : goal.write_any_of-write_places-requires
@@ -228,7 +228,7 @@ pub write_any_of-returns : goal.write_any_of-returns
 write_any_of-returns t c =
     table_written any_of_schema _ _ _ _ c.in_ok-members.ensures
     (rows-cons _ _ _ _ _ _ _ (required_written (codes "anyOf") (list_of (ref_or schema)) (places_doc schema_doc c.args.any_of.now.items) (view c.in_ok-items.items) _ _ c.in_ok-put.ensures.ok c.in_ok-items.ensures)
-    (rows-cons _ _ _ _ _ _ _ c.in_ok-write_unless_empty.ensures
+    (rows-cons _ _ _ _ _ _ _ c.in_ok-write_unless_empty.ensures.ok
     (sym c.in_ok-write_combination.ensures)))
 
 pub write_array-write_items-requires : goal.write_array-write_items-requires
@@ -247,7 +247,7 @@ write_array-returns t c =
     (rows-cons _ _ _ _ _ _ _ (required_written (codes "items") array_items (array_items_doc c.args.array.now.items) (view c.in_ok-items.items) _ _ c.in_ok-put.ensures.ok c.in_ok-items.ensures)
     (rows-cons _ _ _ _ _ _ _ c.in_ok-put_prefix_items.ensures
     (rows-part (array_annotation_docs (annotations_of_array c.args.array.now)) array_annotation_rows (array_annotation_of_rows (annotations_of_array c.args.array.now)) _ _ _ _ _ c.in_ok-write_array_annotations.ensures
-    (rows-part (array_limit_docs (limits_of_array c.args.array.now)) array_limit_rows (array_limit_of_rows (limits_of_array c.args.array.now)) _ _ _ _ _ c.in_ok-write_array_limits.ensures
+    (rows-part (item_limit_and_representation_docs (item_limits_and_representation_of_array c.args.array.now)) item_limit_and_representation_rows (item_limit_and_representation_of_rows (item_limits_and_representation_of_array c.args.array.now)) _ _ _ _ _ c.in_ok-write_item_limits_and_representation.ensures
     (rows-cons _ _ _ _ _ _ _ c.in_ok-put_content_schema.ensures
     (rows-nil _)))))))
 
@@ -272,6 +272,6 @@ write_object-returns t c =
     (rows-cons _ _ _ _ _ _ _ c.in_ok-put_property_names.ensures
     (rows-part (object_annotation_docs (annotations_of_object c.args.object.now)) object_annotation_rows (object_annotation_of_rows (annotations_of_object c.args.object.now)) _ _ _ _ _ c.in_ok-write_object_annotations.ensures
     (rows-part (number_limit_docs (number_limits_of_object c.args.object.now)) number_limit_rows (number_limit_of_rows (number_limits_of_object c.args.object.now)) _ _ _ _ _ c.in_ok-write_number_limits.ensures
-    (rows-part (size_limit_docs (size_limits_of_object c.args.object.now)) size_limit_rows (size_limit_of_rows (size_limits_of_object c.args.object.now)) _ _ _ _ _ c.in_ok-write_size_limits.ensures
+    (rows-part (size_limit_and_content_docs (size_limits_and_content_of_object c.args.object.now)) size_limit_and_content_rows (size_limit_and_content_of_rows (size_limits_and_content_of_object c.args.object.now)) _ _ _ _ _ c.in_ok-write_size_limits_and_content.ensures
     (rows-cons _ _ _ _ _ _ _ c.in_ok-put_content_schema.ensures
     (rows-nil _)))))))))
