@@ -1,4 +1,4 @@
--- A tree reads as the first alternative of a schema that fits.
+-- A tree reads as the first alternative of a schema that fits, and a schema is written as the table of its alternative.
 use Rattle.std.proofs.Common.{◌≡◌, ◌∙◌, refl, ap, Bool, true, false, not, ◌||◌, Option, Some, None, option_map, is_some, codes}
 use Rattle.std.specs.List.{list_any}
 use Rattle.serde_json.specs.Data.{Data, null, boolean, number, string, array, object}
@@ -7,6 +7,7 @@ use Rattle.utoipa_base.specs.Choices.{schema_keywords}
 use Rattle.utoipa_base.specs.Docs.{Doc, schema_doc, flag_doc}
 use Rattle.utoipa_base.specs.Kinds.{schema, ref_or, array_items, additional_properties, named, one_of_schema, all_of_schema, any_of_schema, array_schema, object_schema}
 use Rattle.utoipa_base.specs.Reading.{reader, read, or_else, only_if}
+use Rattle.utoipa_base.specs.Writing.{write}
 use Rattle.utoipa_base.proofs.Alternatives.{past, taken}
 use Rattle.utoipa_schema.specs.Choice.{may_be_object, IsNoCombination}
 
@@ -116,3 +117,9 @@ additional_place (number n) e = refl
 additional_place (string s) e = refl
 additional_place (array ds) e = refl
 additional_place (object ms) e = refl
+
+-- ---- writing
+
+pub write-schema : (d : Doc) → write (schema_doc d) ≡ write d
+unfolding write
+write-schema d = refl

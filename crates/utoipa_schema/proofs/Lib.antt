@@ -1,8 +1,6 @@
 pub mod Choices
-pub mod CopyParts
-pub mod Joins
 pub mod MemberCounts
+pub mod Readers
 pub mod SchemaCounts
 pub mod SchemaMembers
 pub mod Weights
-pub mod WriteParts

@@ -1,5 +1,5 @@
 -- The counter of readings over schemas, and what a content schema that does not fit refuses.
-use Rattle.std.proofs.Common.{Option, Box, Global, Vec, String, BTreeMap, ◌∙◌, ap, ◌≡◌, ◌+◌, ◌<◌, ◌≤◌, ℕ, None, Result, Ok, Err, IfOk, arith, if◌then◌else◌, nat_lt}
+use Rattle.std.proofs.Common.{Option, Box, Global, Vec, String, BTreeMap, ◌∙◌, ap, ◌≡◌, ◌+◌, ◌<◌, ◌≤◌, ℕ, None, Result, Ok, Err, IfOk, arith}
 use Rattle.serde_json.specs.Data.{Data}
 use Rattle.utoipa_base.specs.Docs.{Doc}
 use Rattle.utoipa_base.specs.Docs as docs
@@ -8,8 +8,8 @@ use Rattle.utoipa_base.specs.Kinds.{named, schema, array_schema, object_schema}
 use Rattle.utoipa_base.specs.Reading.{read}
 use Rattle.utoipa_base.specs.Values.{schema_count}
 use Rattle.utoipa_base.proofs.ByRows.{table_refused, fields-first}
-use Rattle.utoipa_base.proofs.Places.{ticked_least, schema_count-none}
-use Rattle.utoipa_schema.proofs.Joins.{join-later}
+use Rattle.utoipa_base.proofs.Places.{schema_count-none}
+use Rattle.utoipa_base.proofs.TableParts.{join-later}
 use Rattle.utoipa_schema.specs.Choice.{content_schema_row, ContentSchema, content_schema_doc}
 use Rattle.utoipa_schema.specs.Docs.{schema_doc, array_items_doc, array_doc, object_doc, boxed, additional_properties_doc}
 use Rattle.utoipa_base.specs.Refs.{ref_or_doc}
@@ -30,12 +30,6 @@ pub counts_one : (d : Doc) → schema_count (docs.schema_doc d) ≡ 1 + schema_c
 unfolding schema_count
 counts_one d = omega arith
 
--- what was read after a tick
-pub after_tick : {E : Type 0} (r : Result Schema E) (old mid new : ℕ) → IfOk r (λ s. new < 18446744073709551615 → mid + schema_count (schema_doc s) ≤ new + 1)
-    → mid ≡ (if nat_lt old 18446744073709551615 then old + 1 else old) → mid ≤ new → IfOk r (λ s. new < 18446744073709551615 → old + schema_count (schema_doc s) ≤ new)
-after_tick (Ok s) old mid new counted tick grows = λ below. omega (arith, below, counted below, ticked_least old mid 18446744073709551615 tick (omega (arith, below, grows)))
-after_tick (Err e) old mid new counted tick grows = tt
-
 -- a tree whose content schema does not fit is no array
 pub no_array : (d : Data) → field content_schema_row d ≡ None → read (named array_schema) d ≡ None
 no_array d e = table_refused array_schema d (join-later array_head_rows _ d (join-later array_schema_rows _ d (join-later array_annotation_rows _ d (join-later item_limit_and_representation_rows content_schema_rows d (fields-first _ _ d e)))))
@@ -49,11 +43,6 @@ no_object_table d e = table_refused object_schema d (join-later object_head_rows
 pub if_ok : {T E : Type 0} (P Q : T → Type 0) (r : Result T E) → IfOk r P → ((v : T) → P v → Q v) → IfOk r Q
 if_ok P Q (Ok v) h f = f v h
 if_ok P Q (Err e) h f = tt
-
--- a result whose schemas are those that were counted
-pub counted_as : {T E : Type 0} (f : T → Doc) (r : Result T E) (old new n : ℕ) → IfOk r (λ v. schema_count (f v) ≡ n) → (new < 18446744073709551615 → old + n ≤ new) → IfOk r (λ v. new < 18446744073709551615 → old + schema_count (f v) ≤ new)
-counted_as f (Ok v) old new n same counted = λ below. omega (arith, same, counted below)
-counted_as f (Err e) old new n same counted = tt
 
 -- ---- an array and an object, with a content schema that was read before
 

@@ -1,9 +1,10 @@
 -- A layer's document, where the schemas in the layer were mapped first.
-use Rattle.std.proofs.Common.{◌≡◌, ◌∙◌, refl, ap, List, [], ◌∷◌, map, Option, Some, None, String, Global, Box, ℕ, string_bytes}
+use Rattle.std.proofs.Common.{◌≡◌, ◌∙◌, refl, ap, Option, Some, None, Global, Box}
 use Rattle.utoipa_base.specs.Docs.{Doc, docs_of, list_doc, map_doc, entries_of_list}
 use Rattle.utoipa_base.specs.Kinds.{schema}
+use Rattle.utoipa_base.specs.Mapped.{list_through, entries_through}
 use Rattle.utoipa_base.specs.Refs.{ref_or_doc}
-use Rattle.utoipa_base.specs.Views.{option_of, list_of_docs, map_of_docs, pairs_of}
+use Rattle.utoipa_base.specs.Views.{option_of, list_of_docs, map_of_docs}
 use Rattle.utoipa_base.specs.declared.refs.RefOr.{RefOr}
 use Rattle.utoipa_base.specs.declared.refs.RefOr.TheVariants as made
 use Rattle.utoipa_schema.specs.Docs.{boxed, additional_properties_doc, items_layer, one_of_table, one_of_layer, all_of_table, all_of_layer, any_of_table, any_of_layer, array_table, array_layer, object_table, object_layer}
@@ -15,19 +16,6 @@ use Rattle.utoipa_schema.specs.declared.types.Array.{Array-F, map-Array}
 use Rattle.utoipa_schema.specs.declared.types.OneOf.{OneOf-F, map-OneOf}
 use Rattle.utoipa_schema.specs.declared.types.AllOf.{AllOf-F, map-AllOf}
 use Rattle.utoipa_schema.specs.declared.types.AnyOf.{AnyOf-F, map-AnyOf}
-
--- ---- lists and maps of mapped values
-
-list_through : {X Y : Type 0} (f : Y → Doc) (h : X → Y) (g : X → Doc) → ((x : X) → f (h x) ≡ g x) → (xs : List X) → map f (map h xs) ≡ map g xs
-list_through f h g same [] = refl
-list_through f h g same (x ∷ xs) = rw (same x, list_through f h g same xs)
-
-abbrev entry_doc : {X : Type 0} → (X → Doc) → String Global × X → List ℕ × Doc
-entry_doc f e = (string_bytes e.0, f e.1)
-
-entries_through : {X Y : Type 0} (f : Y → Doc) (h : String Global × X → String Global × Y) (g : X → Doc) → ((k : String Global) (x : X) → entry_doc f (h (k, x)) ≡ entry_doc g (k, x)) → (es : List (String Global × X)) → pairs_of f (map h es) ≡ pairs_of g es
-entries_through f h g same [] = refl
-entries_through f h g same (e ∷ es) = rw (same e.0 e.1, entries_through f h g same es)
 
 -- ---- the layers
 

@@ -172,7 +172,7 @@ pub(crate) fn assemble_object(
 }
 
 /// An array with another content schema.
-pub(crate) fn array_with_content(
+pub(crate) fn array_with_content_schema(
     mut array: Array,
     content_schema: Option<Box<RefOr<Schema>>>,
 ) -> Array
@@ -183,7 +183,7 @@ pub(crate) fn array_with_content(
 }
 
 /// An object with another content schema.
-pub(crate) fn object_with_content(
+pub(crate) fn object_with_content_schema(
     mut object: Object,
     content_schema: Option<Box<RefOr<Schema>>>,
 ) -> Object

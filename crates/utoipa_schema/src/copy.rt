@@ -37,7 +37,10 @@ pub(crate) fn clone_schema(alloc: Global, schema: &Schema) -> Result<Schema, All
 
 /// Copies a reference, or a schema in its place. Fails where memory runs out.
 #[cycle(copy)]
-pub(crate) fn clone_place(alloc: Global, place: &RefOr<Schema>) -> Result<RefOr<Schema>, AllocError>
+pub(crate) fn clone_ref_or_schema(
+    alloc: Global,
+    place: &RefOr<Schema>,
+) -> Result<RefOr<Schema>, AllocError>
     ensures { IfOk result (λ copy. ref_or_doc schema schema_doc copy ≡ ref_or_doc schema schema_doc place.now) }
 {
     match place {
@@ -53,7 +56,7 @@ pub(crate) fn clone_items(alloc: Global, items: &ArrayItems) -> Result<ArrayItem
 {
     match items {
         ArrayItems::RefOrSchema(place) => {
-            let copied = clone_place(alloc, place)?;
+            let copied = clone_ref_or_schema(alloc, place)?;
             Ok(ArrayItems::RefOrSchema(Box::new(alloc, copied)?))
         }
         ArrayItems::False => Ok(ArrayItems::False),
@@ -71,7 +74,7 @@ pub(crate) fn clone_additional(
 {
     match additional {
         AdditionalProperties::RefOr(place) => {
-            Ok(AdditionalProperties::RefOr(clone_place(alloc, place)?))
+            Ok(AdditionalProperties::RefOr(clone_ref_or_schema(alloc, place)?))
         }
         AdditionalProperties::FreeForm(free) => Ok(AdditionalProperties::FreeForm(*free)),
     }
@@ -91,7 +94,7 @@ fn clone_schemas(alloc: Global, schemas: &Vec<Schema>) -> Result<Vec<Schema>, Al
 
 /// Copies a list of references and schemas.
 #[cycle(copy)]
-fn clone_places(
+fn clone_ref_or_schema_list(
     alloc: Global,
     places: &Vec<RefOr<Schema>>,
 ) -> Result<Vec<RefOr<Schema>>, AllocError>
@@ -99,14 +102,14 @@ fn clone_places(
 {
     let mut list = Vec::new(alloc);
     for item in places {
-        list.push(clone_place(alloc, item)?)?;
+        list.push(clone_ref_or_schema(alloc, item)?)?;
     }
     Ok(list)
 }
 
 /// Copies references and schemas with their names.
 #[cycle(copy)]
-fn clone_properties(
+fn clone_ref_or_schema_map(
     alloc: Global,
     properties: &BTreeMap<String, RefOr<Schema>>,
 ) -> Result<BTreeMap<String, RefOr<Schema>>, AllocError>
@@ -116,7 +119,7 @@ fn clone_properties(
     let mut map = BTreeMap::new(alloc);
     for (key, member) in properties.iter() {
         let name = key.clone()?;
-        let value = clone_place(alloc, member)?;
+        let value = clone_ref_or_schema(alloc, member)?;
         drop(map.insert(name, value)?);
     }
     Ok(map)
@@ -132,7 +135,7 @@ fn clone_content_schema(
 {
     match content {
         Some(place) => {
-            let copied = clone_place(alloc, place)?;
+            let copied = clone_ref_or_schema(alloc, place)?;
             Ok(Some(Box::new(alloc, copied)?))
         }
         None => Ok(None),
@@ -141,7 +144,7 @@ fn clone_content_schema(
 
 /// Copies what the other properties are, if it is said.
 #[cycle(copy)]
-fn clone_additional_member(
+fn clone_additional_properties(
     alloc: Global,
     member: &Option<Box<AdditionalProperties<Schema>>>,
 ) -> Result<Option<Box<AdditionalProperties<Schema>>>, AllocError>
@@ -179,7 +182,7 @@ fn clone_property_names(
 pub(crate) fn clone_one_of(alloc: Global, one_of: &OneOf) -> Result<OneOf, AllocError>
     ensures { IfOk result (λ copy. one_of_doc copy ≡ one_of_doc one_of.now) }
 {
-    let items = clone_places(alloc, &one_of.items)?;
+    let items = clone_ref_or_schema_list(alloc, &one_of.items)?;
     clone_one_of_with(alloc, one_of, items)
 }
 
@@ -188,7 +191,7 @@ pub(crate) fn clone_one_of(alloc: Global, one_of: &OneOf) -> Result<OneOf, Alloc
 pub(crate) fn clone_all_of(alloc: Global, all_of: &AllOf) -> Result<AllOf, AllocError>
     ensures { IfOk result (λ copy. all_of_doc copy ≡ all_of_doc all_of.now) }
 {
-    let items = clone_places(alloc, &all_of.items)?;
+    let items = clone_ref_or_schema_list(alloc, &all_of.items)?;
     clone_all_of_with(alloc, all_of, items)
 }
 
@@ -197,7 +200,7 @@ pub(crate) fn clone_all_of(alloc: Global, all_of: &AllOf) -> Result<AllOf, Alloc
 pub(crate) fn clone_any_of(alloc: Global, any_of: &AnyOf) -> Result<AnyOf, AllocError>
     ensures { IfOk result (λ copy. any_of_doc copy ≡ any_of_doc any_of.now) }
 {
-    let items = clone_places(alloc, &any_of.items)?;
+    let items = clone_ref_or_schema_list(alloc, &any_of.items)?;
     clone_any_of_with(alloc, any_of, items)
 }
 
@@ -217,8 +220,8 @@ pub(crate) fn clone_array(alloc: Global, array: &Array) -> Result<Array, AllocEr
 pub(crate) fn clone_object(alloc: Global, object: &Object) -> Result<Object, AllocError>
     ensures { IfOk result (λ copy. object_doc copy ≡ object_doc object.now) }
 {
-    let properties = clone_properties(alloc, &object.properties)?;
-    let additional_properties = clone_additional_member(alloc, &object.additional_properties)?;
+    let properties = clone_ref_or_schema_map(alloc, &object.properties)?;
+    let additional_properties = clone_additional_properties(alloc, &object.additional_properties)?;
     let property_names = clone_property_names(alloc, &object.property_names)?;
     let content_schema = clone_content_schema(alloc, &object.content_schema)?;
     clone_object_with(

@@ -23,3 +23,4 @@ pub use object::{ObjectBuilder, empty};
 pub use one_of::OneOfBuilder;
 pub use trees::{read_ref_or_schema, read_schema_list, read_schema_map};
 pub use types::{AdditionalProperties, AllOf, AnyOf, Array, ArrayItems, Object, OneOf, Schema};
+pub use utoipa_schema_parts::{Discriminator, KnownFormat, SchemaFormat, SchemaType, TypeWord};

@@ -1,12 +1,11 @@
 //! Schemas are read from trees and written as trees.
 //!
 //! A tree that fits no alternative of a schema is refused as `Alternative`, whatever failed inside.
-ghost use Rattle.std.specs.Prelude.{◌≡◌, ◌≤◌, ◌<◌, ◌+◌, Some, IfOk, IfErr};
 ghost use Rattle.serde_json.specs.View.{view};
-ghost use Rattle.utoipa_base.specs.Faults.{Refuses};
 ghost use Rattle.utoipa_base.specs.Reading.{read as read_as};
+ghost use Rattle.utoipa_base.specs.Reads.{Reads};
 ghost use Rattle.utoipa_base.specs.Kinds.{schema, array_items, additional_properties, named, one_of_schema, all_of_schema, any_of_schema, array_schema, object_schema};
-ghost use Rattle.utoipa_base.specs.Values.{values, schema_count};
+ghost use Rattle.utoipa_base.specs.Values.{values};
 ghost use Rattle.utoipa_schema.specs.Docs.{schema_doc, additional_properties_doc, array_items_doc, one_of_doc, all_of_doc, any_of_doc, array_doc, object_doc};
 ghost use Rattle.utoipa_schema.specs.OfKind.{schema_of_kind, additional_properties_of_kind, array_items_of_kind, one_of_of_kind, all_of_of_kind, any_of_of_kind, array_of_kind, object_of_kind};
 
@@ -54,7 +53,7 @@ impl Place for Schema {
         tree: &Value,
         readings: &mut Readings,
     ) -> Result<RefOr<Schema>, ReadFault> {
-        read::read_place(alloc, tree, readings)
+        read::read_ref_or_schema(alloc, tree, readings)
     }
 }
 
@@ -234,49 +233,43 @@ impl Tree for AdditionalProperties<Schema> {
 }
 
 /// Reads a reference, or else a schema: what `RefOr<Schema>` reads.
+///
+/// Fails with `Alternative` where the tree is neither, and where memory runs out.
 pub fn read_ref_or_schema(
     alloc: Global,
     tree: &Value,
     readings: &mut Readings,
 ) -> Result<RefOr<Schema>, ReadFault>
-    ensures ok { IfOk result (λ v. read_as ⟦<RefOr<Schema> as Tree>⟧.kind (view tree.now) ≡ Some (⟦<RefOr<Schema> as Tree>⟧.doc v)) }
-    ensures err { IfErr result (Refuses (read_as ⟦<RefOr<Schema> as Tree>⟧.kind (view tree.now))) }
-    ensures grows { readings.old ≤ readings.new }
-    ensures at_most { readings.new ≤ readings.old + values (view tree.now) }
-    ensures at_least { IfOk result (λ v. readings.new < u64.MAX
-        → readings.old + schema_count (⟦<RefOr<Schema> as Tree>⟧.doc v) ≤ readings.new) }
+    ensures { Reads (read_as ⟦<RefOr<Schema> as Tree>⟧.kind (view tree.now)) ⟦<RefOr<Schema> as Tree>⟧.doc result
+        readings.old readings.new (values (view tree.now)) }
 {
-    read::read_place(alloc, tree, readings)
+    read::read_ref_or_schema(alloc, tree, readings)
 }
 
 /// Reads a list of references and schemas: what `Vec<RefOr<Schema>>` reads.
+///
+/// Fails where the tree is no list, where an item is neither a reference nor a schema, and where memory runs out.
 pub fn read_schema_list(
     alloc: Global,
     tree: &Value,
     readings: &mut Readings,
 ) -> Result<Vec<RefOr<Schema>>, ReadFault>
-    ensures ok { IfOk result (λ v. read_as ⟦<Vec<RefOr<Schema>> as Tree>⟧.kind (view tree.now) ≡ Some (⟦<Vec<RefOr<Schema>> as Tree>⟧.doc v)) }
-    ensures err { IfErr result (Refuses (read_as ⟦<Vec<RefOr<Schema>> as Tree>⟧.kind (view tree.now))) }
-    ensures grows { readings.old ≤ readings.new }
-    ensures at_most { readings.new ≤ readings.old + values (view tree.now) }
-    ensures at_least { IfOk result (λ v. readings.new < u64.MAX
-        → readings.old + schema_count (⟦<Vec<RefOr<Schema>> as Tree>⟧.doc v) ≤ readings.new) }
+    ensures { Reads (read_as ⟦<Vec<RefOr<Schema>> as Tree>⟧.kind (view tree.now)) ⟦<Vec<RefOr<Schema>> as Tree>⟧.doc result
+        readings.old readings.new (values (view tree.now)) }
 {
-    read::read_places(alloc, tree, readings)
+    read::read_ref_or_schema_list(alloc, tree, readings)
 }
 
 /// Reads references and schemas by their names: what `BTreeMap<String, RefOr<Schema>>` reads.
+///
+/// Fails where the tree is no object, where a member is neither a reference nor a schema, and where memory runs out.
 pub fn read_schema_map(
     alloc: Global,
     tree: &Value,
     readings: &mut Readings,
 ) -> Result<BTreeMap<String, RefOr<Schema>>, ReadFault>
-    ensures ok { IfOk result (λ v. read_as ⟦<BTreeMap<String, RefOr<Schema>> as Tree>⟧.kind (view tree.now) ≡ Some (⟦<BTreeMap<String, RefOr<Schema>> as Tree>⟧.doc v)) }
-    ensures err { IfErr result (Refuses (read_as ⟦<BTreeMap<String, RefOr<Schema>> as Tree>⟧.kind (view tree.now))) }
-    ensures grows { readings.old ≤ readings.new }
-    ensures at_most { readings.new ≤ readings.old + values (view tree.now) }
-    ensures at_least { IfOk result (λ v. readings.new < u64.MAX
-        → readings.old + schema_count (⟦<BTreeMap<String, RefOr<Schema>> as Tree>⟧.doc v) ≤ readings.new) }
+    ensures { Reads (read_as ⟦<BTreeMap<String, RefOr<Schema>> as Tree>⟧.kind (view tree.now)) ⟦<BTreeMap<String, RefOr<Schema>> as Tree>⟧.doc result
+        readings.old readings.new (values (view tree.now)) }
 {
-    read::read_properties(alloc, tree, readings)
+    read::read_ref_or_schema_map(alloc, tree, readings)
 }

@@ -39,7 +39,7 @@ pub(crate) fn write_schema(alloc: Global, schema_value: &Schema) -> Result<Value
 
 /// A reference, or a schema in its place.
 #[cycle(write)]
-pub(crate) fn write_place(alloc: Global, place: &RefOr<Schema>) -> Result<Value, AllocError>
+pub(crate) fn write_ref_or_schema(alloc: Global, place: &RefOr<Schema>) -> Result<Value, AllocError>
     ensures { IfOk result (λ v. view v ≡ write (ref_or_doc schema schema_doc place.now)) }
 {
     match place {
@@ -54,7 +54,7 @@ pub(crate) fn write_items(alloc: Global, items: &ArrayItems) -> Result<Value, Al
     ensures { IfOk result (λ v. view v ≡ write (array_items_doc items.now)) }
 {
     match items {
-        ArrayItems::RefOrSchema(place) => write_place(alloc, place),
+        ArrayItems::RefOrSchema(place) => write_ref_or_schema(alloc, place),
         ArrayItems::False => Ok(Value::Bool(false)),
     }
 }
@@ -68,7 +68,7 @@ pub(crate) fn write_additional(
     ensures { IfOk result (λ v. view v ≡ write (additional_properties_doc schema_doc additional.now)) }
 {
     match additional {
-        AdditionalProperties::RefOr(place) => write_place(alloc, place),
+        AdditionalProperties::RefOr(place) => write_ref_or_schema(alloc, place),
         AdditionalProperties::FreeForm(free) => Ok(Value::Bool(*free)),
     }
 }
@@ -87,19 +87,19 @@ fn write_schemas(alloc: Global, items: &Vec<Schema>) -> Result<Value, AllocError
 
 /// A list of references and schemas.
 #[cycle(write)]
-fn write_places(alloc: Global, items: &Vec<RefOr<Schema>>) -> Result<Value, AllocError>
+fn write_ref_or_schema_list(alloc: Global, items: &Vec<RefOr<Schema>>) -> Result<Value, AllocError>
     ensures { IfOk result (λ v. view v ≡ write (places_doc schema_doc items.now)) }
 {
     let mut list = Vec::new(alloc);
     for item in items {
-        list.push(write_place(alloc, item)?)?;
+        list.push(write_ref_or_schema(alloc, item)?)?;
     }
     Ok(Value::Array(list))
 }
 
 /// References and schemas by their names.
 #[cycle(write)]
-fn write_properties(
+fn write_ref_or_schema_map(
     alloc: Global,
     properties: &BTreeMap<String, RefOr<Schema>>,
 ) -> Result<Value, AllocError>
@@ -107,7 +107,7 @@ fn write_properties(
 {
     let mut members = Map::new(alloc);
     for (key, member) in properties.iter() {
-        let value = write_place(alloc, member)?;
+        let value = write_ref_or_schema(alloc, member)?;
         put(&mut members, alloc, key.as_str(), value)?;
     }
     Ok(Value::Object(members))
@@ -125,7 +125,7 @@ fn put_content_schema(
 {
     match content_schema {
         Some(value) => {
-            let written = write_place(alloc, value)?;
+            let written = write_ref_or_schema(alloc, value)?;
             put(members, alloc, "contentSchema", written)
         }
         None => Ok(()),
@@ -200,7 +200,7 @@ fn put_properties(
     if properties.is_empty() {
         return Ok(());
     }
-    let written = write_properties(alloc, properties)?;
+    let written = write_ref_or_schema_map(alloc, properties)?;
     put(members, alloc, "properties", written)
 }
 
@@ -210,7 +210,7 @@ pub(crate) fn write_one_of(alloc: Global, one_of: &OneOf) -> Result<Value, Alloc
     ensures { IfOk result (λ v. view v ≡ write (one_of_doc one_of.now)) }
 {
     let mut members = written_extensions(alloc, &one_of.extensions)?;
-    let items = write_places(alloc, &one_of.items)?;
+    let items = write_ref_or_schema_list(alloc, &one_of.items)?;
     put(&mut members, alloc, "oneOf", items)?;
     write_unless_empty(&mut members, alloc, "type", &one_of.schema_type)?;
     write_option(&mut members, alloc, "title", &one_of.title)?;
@@ -234,7 +234,7 @@ pub(crate) fn write_all_of(alloc: Global, all_of: &AllOf) -> Result<Value, Alloc
     ensures { IfOk result (λ v. view v ≡ write (all_of_doc all_of.now)) }
 {
     let mut members = written_extensions(alloc, &all_of.extensions)?;
-    let items = write_places(alloc, &all_of.items)?;
+    let items = write_ref_or_schema_list(alloc, &all_of.items)?;
     put(&mut members, alloc, "allOf", items)?;
     write_unless_empty(&mut members, alloc, "type", &all_of.schema_type)?;
     write_option(&mut members, alloc, "title", &all_of.title)?;
@@ -256,7 +256,7 @@ pub(crate) fn write_any_of(alloc: Global, any_of: &AnyOf) -> Result<Value, Alloc
     ensures { IfOk result (λ v. view v ≡ write (any_of_doc any_of.now)) }
 {
     let mut members = written_extensions(alloc, &any_of.extensions)?;
-    let items = write_places(alloc, &any_of.items)?;
+    let items = write_ref_or_schema_list(alloc, &any_of.items)?;
     put(&mut members, alloc, "anyOf", items)?;
     write_unless_empty(&mut members, alloc, "type", &any_of.schema_type)?;
     write_combination(

@@ -1,21 +1,19 @@
 -- The measures of the functions that copy schemas, and the invariants of their loops.
-use Rattle.std.proofs.Common.{◌≡◌, ◌+◌, ◌*◌, List, ◌++◌, take, map, String, Global}
+use Rattle.std.proofs.Common.{◌≡◌, ◌+◌, ◌*◌, take, map}
 use Rattle.utoipa_base.specs.Kinds.{schema}
 use Rattle.utoipa_base.specs.Refs.{ref_or_doc}
-use Rattle.utoipa_base.specs.Views.{option_of, list_of_docs, map_of_docs, pairs_of}
-use Rattle.utoipa_base.specs.declared.refs.RefOr.{RefOr}
-use Rattle.utoipa_base.proofs.Maps.{texts}
+use Rattle.utoipa_base.specs.Views.{option_of, list_of_docs, map_of_docs}
+use Rattle.utoipa_base.proofs.Weights.{weight}
+use Rattle.utoipa_base.proofs.WritingMaps.{MapCopied}
 use Rattle.utoipa_schema.specs.Choice.{content_schema_doc}
 use Rattle.utoipa_schema.specs.Docs.{boxed, places_doc, additional_properties_doc, schema_doc, array_items_doc, one_of_doc, all_of_doc, any_of_doc, array_doc, object_doc}
-use Rattle.utoipa_schema.specs.declared.types.Schema.{Schema}
-use Rattle.utoipa_schema.proofs.Weights.{weight}
 use Rattle.utoipa_schema.proofs.copy.+copy.Given as goal
 
 abbrev pub decreases-clone_schema : goal.decreases-clone_schema
 decreases-clone_schema l = 2 * weight (schema_doc l.schema.now) + 0
 
-abbrev pub decreases-clone_place : goal.decreases-clone_place
-decreases-clone_place l = 2 * weight (ref_or_doc schema schema_doc l.place.now) + 0
+abbrev pub decreases-clone_ref_or_schema : goal.decreases-clone_ref_or_schema
+decreases-clone_ref_or_schema l = 2 * weight (ref_or_doc schema schema_doc l.place.now) + 0
 
 abbrev pub decreases-clone_items : goal.decreases-clone_items
 decreases-clone_items l = 2 * weight (array_items_doc l.items.now) + 1
@@ -26,17 +24,17 @@ decreases-clone_additional l = 2 * weight (additional_properties_doc schema_doc 
 abbrev pub decreases-clone_schemas : goal.decreases-clone_schemas
 decreases-clone_schemas l = 2 * weight (list_of_docs schema_doc l.schemas.now) + 0
 
-abbrev pub decreases-clone_places : goal.decreases-clone_places
-decreases-clone_places l = 2 * weight (places_doc schema_doc l.places.now) + 0
+abbrev pub decreases-clone_ref_or_schema_list : goal.decreases-clone_ref_or_schema_list
+decreases-clone_ref_or_schema_list l = 2 * weight (places_doc schema_doc l.places.now) + 0
 
-abbrev pub decreases-clone_properties : goal.decreases-clone_properties
-decreases-clone_properties l = 2 * weight (map_of_docs (ref_or_doc schema schema_doc) l.properties.now) + 0
+abbrev pub decreases-clone_ref_or_schema_map : goal.decreases-clone_ref_or_schema_map
+decreases-clone_ref_or_schema_map l = 2 * weight (map_of_docs (ref_or_doc schema schema_doc) l.properties.now) + 0
 
 abbrev pub decreases-clone_content_schema : goal.decreases-clone_content_schema
 decreases-clone_content_schema l = 2 * weight (content_schema_doc l.content.now) + 1
 
-abbrev pub decreases-clone_additional_member : goal.decreases-clone_additional_member
-decreases-clone_additional_member l = 2 * weight (option_of (boxed (additional_properties_doc schema_doc)) l.member.now) + 1
+abbrev pub decreases-clone_additional_properties : goal.decreases-clone_additional_properties
+decreases-clone_additional_properties l = 2 * weight (option_of (boxed (additional_properties_doc schema_doc)) l.member.now) + 1
 
 abbrev pub decreases-clone_property_names : goal.decreases-clone_property_names
 decreases-clone_property_names l = 2 * weight (option_of (boxed schema_doc) l.member.now) + 1
@@ -59,10 +57,8 @@ decreases-clone_object l = 2 * weight (object_doc l.object.now) + 0
 abbrev pub invariant-clone_schemas-loop-item : goal.invariant-clone_schemas-loop-item
 invariant-clone_schemas-loop-item l = map schema_doc l.list.items ≡ map schema_doc (take l.item-index l.item-items)
 
-abbrev pub invariant-clone_places-loop-item : goal.invariant-clone_places-loop-item
-invariant-clone_places-loop-item l = map (ref_or_doc schema schema_doc) l.list.items ≡ map (ref_or_doc schema schema_doc) (take l.item-index l.item-items)
+abbrev pub invariant-clone_ref_or_schema_list-loop-item : goal.invariant-clone_ref_or_schema_list-loop-item
+invariant-clone_ref_or_schema_list-loop-item l = map (ref_or_doc schema schema_doc) l.list.items ≡ map (ref_or_doc schema schema_doc) (take l.item-index l.item-items)
 
-abbrev pub invariant-clone_properties-loop-key : goal.invariant-clone_properties-loop-key
-invariant-clone_properties-loop-key l =
-    (done : List (String Global × RefOr Schema)) × (l.properties.entries ≡ done ++ l.key-iterator) × (texts l.map.entries ≡ texts done)
-    × (pairs_of (ref_or_doc schema schema_doc) l.map.entries ≡ pairs_of (ref_or_doc schema schema_doc) done)
+abbrev pub invariant-clone_ref_or_schema_map-loop-key : goal.invariant-clone_ref_or_schema_map-loop-key
+invariant-clone_ref_or_schema_map-loop-key l = MapCopied (ref_or_doc schema schema_doc) l.properties.entries l.key-iterator l.map.entries

@@ -1,5 +1,5 @@
 use Rattle.utoipa_base.specs.Kinds.{all_of_schema}
-use Rattle.utoipa_schema.proofs.CopyParts.{same_field, same_table}
+use Rattle.utoipa_base.proofs.TableParts.{same_field, same_table}
 use Rattle.utoipa_schema.proofs.copy.clone_all_of_with.Goals as goal
 
 pub returns : goal.returns

@@ -1,7 +1,7 @@
 use Rattle.std.proofs.Common.{refl}
 use Rattle.utoipa_base.specs.Kinds.{array_schema}
 use Rattle.utoipa_schema.specs.Parts.{array_head_docs, head_of_array, array_annotation_docs, annotations_of_array, item_limit_and_representation_docs, item_limits_and_representation_of_array}
-use Rattle.utoipa_schema.proofs.CopyParts.{same_field, same_part, same_table}
+use Rattle.utoipa_base.proofs.TableParts.{same_field, same_part, same_table}
 use Rattle.utoipa_schema.proofs.copy.clone_array_with.Goals as goal
 
 pub returns : goal.returns

@@ -1,7 +1,7 @@
 use Rattle.std.proofs.Common.{refl}
 use Rattle.utoipa_base.specs.Kinds.{object_schema}
 use Rattle.utoipa_schema.specs.Parts.{object_head_docs, head_of_object, object_annotation_docs, annotations_of_object, number_limit_docs, number_limits_of_object, size_limit_and_content_docs, size_limits_and_content_of_object}
-use Rattle.utoipa_schema.proofs.CopyParts.{same_field, same_part, same_table}
+use Rattle.utoipa_base.proofs.TableParts.{same_field, same_part, same_table}
 use Rattle.utoipa_schema.proofs.copy.clone_object_with.Goals as goal
 
 pub returns : goal.returns

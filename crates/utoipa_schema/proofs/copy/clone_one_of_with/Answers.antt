@@ -1,7 +1,7 @@
 use Rattle.std.proofs.Common.{refl}
 use Rattle.utoipa_base.specs.Kinds.{one_of_schema}
 use Rattle.utoipa_schema.specs.Parts.{combination_docs, combination_of_one_of}
-use Rattle.utoipa_schema.proofs.CopyParts.{same_field, same_part, same_table}
+use Rattle.utoipa_base.proofs.TableParts.{same_field, same_part, same_table}
 use Rattle.utoipa_schema.proofs.copy.clone_one_of_with.Goals as goal
 
 pub returns : goal.returns

@@ -1,26 +1,29 @@
-use Rattle.std.proofs.Common.{arith, ap}
+use Rattle.std.proofs.Common.{Some, ◌∙◌, sym, ap, arith}
 use Rattle.serde_json.specs.View.{view}
 use Rattle.utoipa_base.specs.Values.{schema_count}
-use Rattle.utoipa_base.proofs.ByRows.{passes_on}
+use Rattle.utoipa_base.proofs.RowLists.{passes_reads}
 use Rattle.utoipa_schema.specs.Docs.{object_doc}
+use Rattle.utoipa_schema.proofs.Readers.{passes_refusal}
 use Rattle.utoipa_schema.proofs.SchemaCounts.{no_object_table, object_content_counts}
 use Rattle.utoipa_schema.proofs.SchemaMembers.{schema_values}
 use Rattle.utoipa_schema.proofs.read.read_object.Goals as goal
 
-pub returns-in_err-object-clause-at_most : goal.returns-in_err-object-clause-at_most
-returns-in_err-object-clause-at_most c = omega (arith, schema_values (view c.args.tree.now))
+pub returns-in_err-object : goal.returns-in_err-object
+returns-in_err-object c = passes_refusal _ _ _ _ _ _ _ c.from_residual.ensures.1 c.in_err-object.ensures.err c.in_err-object.ensures.grows (omega (arith, schema_values (view c.args.tree.now), c.in_err-object.ensures.at_most))
 
-pub returns-in_err-content_schema-clause-err : goal.returns-in_err-content_schema-clause-err
-returns-in_err-content_schema-clause-err c = passes_on _ _ _ _ c.from_residual-in_err-content_schema.ensures.1 c.in_err-content_schema.ensures.err (λ h. no_object_table (view c.args.tree.now) h)
+pub returns-in_err-content_schema : goal.returns-in_err-content_schema
+returns-in_err-content_schema c =
+    passes_reads _ _ _ _ _ _ _ _ _ _ _ c.from_residual-in_err-content_schema.ensures.1 c.in_err-content_schema.ensures (no_object_table (view c.args.tree.now)) c.in_ok-object.ensures.grows
+    (omega (arith, schema_values (view c.args.tree.now), c.in_ok-object.ensures.at_most))
 
-pub returns-in_err-content_schema-clause-at_most : goal.returns-in_err-content_schema-clause-at_most
-returns-in_err-content_schema-clause-at_most c = omega (arith, schema_values (view c.args.tree.now))
-
-pub returns-clause-at_most : goal.returns-clause-at_most
-returns-clause-at_most c = omega (arith, schema_values (view c.args.tree.now))
-
-pub returns-clause-at_least : goal.returns-clause-at_least
-returns-clause-at_least c =
+pub returns : goal.returns
+returns c =
+    let content = c.in_ok-content_schema.ensures in
     let counts = object_content_counts c.in_ok-object.object c.in_ok-content_schema.content_schema c.in_ok-object.ensures.without in
-    let same = ap (λ x. schema_count (object_doc x)) c.object_with_content.ensures in
-    λ below. omega (arith, counts, same, c.in_ok-content_schema.ensures.at_least below, c.in_ok-object.ensures.at_least (omega (arith, c.in_ok-content_schema.ensures.grows, below)))
+    record {
+      ok = c.in_ok-object.ensures.ok c.in_ok-content_schema.content_schema content.ok ∙ ap (λ x. Some (object_doc x)) (sym c.object_with_content_schema.ensures);
+      err = tt;
+      grows = omega (arith, c.in_ok-object.ensures.grows, content.grows);
+      at_most = omega (arith, schema_values (view c.args.tree.now), c.in_ok-object.ensures.at_most, content.at_most);
+      at_least = λ below. omega (arith, counts, ap (λ x. schema_count (object_doc x)) c.object_with_content_schema.ensures, content.at_least below, c.in_ok-object.ensures.at_least (omega (arith, content.grows, below)));
+    }

@@ -1,30 +1,31 @@
 -- The answers of the functions that write schemas.
-use Rattle.std.proofs.Common.{◌≡◌, false, [], ◌∷◌, ◌++◌, map, String, Global, string_cmp, sym, ap, ◌∙◌, subst, append_assoc, append-nil, arith, codes}
-use Rattle.std.proofs.lemmas.List.{take_all}
+use Rattle.std.proofs.Common.{◌≡◌, false, ◌∷◌, ◌++◌, map, String, Global, sym, ap, ◌∙◌, arith, codes, rules}
 use Rattle.std.proofs.lemmas.Result.{IfOk-weaker}
-use Rattle.std.specs.List.Sorted.{IsStrictlySortedBy}
-use Rattle.std.specs.Map.{keys_of}
 use Rattle.serde_json.specs.View.{view, members_view}
 use Rattle.utoipa_base.specs.Docs.{list_doc, docs_of}
 use Rattle.utoipa_base.specs.Kinds.{schema, array_items, additional_properties as additional_kind, list_of, map_of, ref_or, optional, one_of_schema, all_of_schema, any_of_schema, array_schema, object_schema}
 use Rattle.utoipa_base.specs.Refs.{ref_or_doc, reference_doc}
 use Rattle.utoipa_base.specs.Writing.{write}
 use Rattle.utoipa_base.specs.declared.refs.RefOr.{RefOr}
-use Rattle.utoipa_base.proofs.ByKind.{write-list-of_items, write-flag}
+use Rattle.utoipa_base.proofs.ByKind.{write-flag}
 use Rattle.utoipa_base.proofs.Empties.{vacant_slice, vacant_entries}
 use Rattle.utoipa_base.specs.Fields.{put_field}
 use Rattle.utoipa_base.specs.Tables.{row}
 use Rattle.utoipa_base.specs.Views.{option_of, list_of_docs, map_of_docs}
 use Rattle.utoipa_schema.specs.Choice.{content_schema_doc}
 use Rattle.utoipa_base.proofs.ByRows.{table_written, rows-cons, rows-nil, put_field-none, put_field-empty}
-use Rattle.utoipa_base.proofs.Maps.{members_by, put_last, write-map_of_entries}
 use Rattle.utoipa_base.proofs.Places.{write-ref, write-own}
 use Rattle.utoipa_schema.specs.Docs.{boxed, schema_doc, places_doc, array_items_doc, additional_properties_doc, one_of_doc, all_of_doc, any_of_doc, array_doc, object_doc}
 use Rattle.utoipa_schema.specs.Folds.{schema-Array, schema-Object, schema-OneOf, schema-AllOf, schema-AnyOf, items-False, items-RefOrSchema}
 use Rattle.utoipa_schema.specs.Parts.{combination_docs, combination_rows, combination_of_rows, combination_of_one_of, array_head_docs, array_head_rows, array_head_of_rows, head_of_array, array_annotation_docs, array_annotation_rows, array_annotation_of_rows, annotations_of_array, item_limit_and_representation_docs, item_limit_and_representation_rows, item_limit_and_representation_of_rows, item_limits_and_representation_of_array, object_head_docs, object_head_rows, object_head_of_rows, head_of_object, object_annotation_docs, object_annotation_rows, object_annotation_of_rows, annotations_of_object, number_limit_docs, number_limit_rows, number_limit_of_rows, number_limits_of_object, size_limit_and_content_docs, size_limit_and_content_rows, size_limit_and_content_of_rows, size_limits_and_content_of_object}
 use Rattle.utoipa_schema.specs.declared.types.Schema.{Schema}
-use Rattle.utoipa_schema.proofs.Weights.{weight, lighter_item, lighter_member, lighter_some, lighter_schema, lighter_own, lighter_one_of, lighter_all_of, lighter_any_of, lighter_array, lighter_object}
-use Rattle.utoipa_schema.proofs.WriteParts.{write-schema, rows-part, required_written, optional_written, default_written, on_ok, view-Bool}
+use Rattle.utoipa_base.proofs.Weights.{weight, lighter_item, lighter_member, lighter_some, lighter_schema, lighter_own}
+use Rattle.utoipa_schema.proofs.Weights.{lighter_one_of, lighter_all_of, lighter_any_of, lighter_array, lighter_object}
+use Rattle.utoipa_base.proofs.TableParts.{rows-part, required_written, optional_written, default_written, on_ok, view-Bool}
+use Rattle.utoipa_base.proofs.WritingLists.{written_item, written_list}
+use Rattle.utoipa_base.proofs.WritingMaps.{written_begun, written_step, written_map}
+use Rattle.serde_json.specs.Data.{no_members, put}
+use Rattle.utoipa_schema.proofs.Choices.{write-schema}
 use Rattle.utoipa_schema.proofs.write.+write.Goals as goal
 
 pub write_schema-write_array-requires : goal.write_schema-write_array-requires
@@ -67,29 +68,29 @@ write_schema-returns-in-AnyOf t c =
     let same : schema_doc c.args.schema_value.now ≡ _ = ap schema_doc c.in-AnyOf.is ∙ schema-AnyOf c.in-AnyOf.any_of in
     IfOk-weaker c.write_any_of.result _ _ (λ v e. e ∙ sym (write-schema (any_of_doc c.in-AnyOf.any_of)) ∙ ap write (sym same)) c.write_any_of.ensures
 
-pub write_place-write_schema-requires : goal.write_place-write_schema-requires
-write_place-write_schema-requires t c = (omega (arith, ap (λ p. weight ((ref_or_doc schema schema_doc) p)) c.in-T.is, lighter_own (schema_doc c.in-T.value)), tt)
+pub write_ref_or_schema-write_schema-requires : goal.write_ref_or_schema-write_schema-requires
+write_ref_or_schema-write_schema-requires t c = (omega (arith, ap (λ p. weight ((ref_or_doc schema schema_doc) p)) c.in-T.is, lighter_own (schema_doc c.in-T.value)), tt)
 
-pub write_place-returns-in-T : goal.write_place-returns-in-T
-write_place-returns-in-T t c = IfOk-weaker c.write_schema.result _ _ (λ v e. e ∙ sym (write-own (schema_doc c.in-T.value)) ∙ ap (λ p. write ((ref_or_doc schema schema_doc) p)) (sym c.in-T.is)) c.write_schema.ensures
+pub write_ref_or_schema-returns-in-T : goal.write_ref_or_schema-returns-in-T
+write_ref_or_schema-returns-in-T t c = IfOk-weaker c.write_schema.result _ _ (λ v e. e ∙ sym (write-own (schema_doc c.in-T.value)) ∙ ap (λ p. write ((ref_or_doc schema schema_doc) p)) (sym c.in-T.is)) c.write_schema.ensures
 
-pub write_place-returns-in-Ref : goal.write_place-returns-in-Ref
-write_place-returns-in-Ref t c = IfOk-weaker c.to_value.result _ _ (λ v e. e ∙ sym (write-ref schema (reference_doc c.in-Ref.reference)) ∙ ap (λ p. write ((ref_or_doc schema schema_doc) p)) (sym c.in-Ref.is)) c.to_value.ensures
+pub write_ref_or_schema-returns-in-Ref : goal.write_ref_or_schema-returns-in-Ref
+write_ref_or_schema-returns-in-Ref t c = IfOk-weaker c.to_value.result _ _ (λ v e. e ∙ sym (write-ref schema (reference_doc c.in-Ref.reference)) ∙ ap (λ p. write ((ref_or_doc schema schema_doc) p)) (sym c.in-Ref.is)) c.to_value.ensures
 
-pub write_items-write_place-requires : goal.write_items-write_place-requires
-write_items-write_place-requires t c = (omega (arith, ap (λ i. weight (array_items_doc i)) c.in-RefOrSchema.is, ap weight (items-RefOrSchema c.in-RefOrSchema.place), ap (λ p. weight ((ref_or_doc schema schema_doc) p)) c.deref.ensures), tt)
+pub write_items-write_ref_or_schema-requires : goal.write_items-write_ref_or_schema-requires
+write_items-write_ref_or_schema-requires t c = (omega (arith, ap (λ i. weight (array_items_doc i)) c.in-RefOrSchema.is, ap weight (items-RefOrSchema c.in-RefOrSchema.place), ap (λ p. weight ((ref_or_doc schema schema_doc) p)) c.deref.ensures), tt)
 
 pub write_items-returns-in-RefOrSchema : goal.write_items-returns-in-RefOrSchema
-write_items-returns-in-RefOrSchema t c = IfOk-weaker c.write_place.result _ _ (λ v e. e ∙ ap (λ p. write ((ref_or_doc schema schema_doc) p)) c.deref.ensures ∙ ap write (sym (items-RefOrSchema c.in-RefOrSchema.place)) ∙ ap (λ i. write (array_items_doc i)) (sym c.in-RefOrSchema.is)) c.write_place.ensures
+write_items-returns-in-RefOrSchema t c = IfOk-weaker c.write_ref_or_schema.result _ _ (λ v e. e ∙ ap (λ p. write ((ref_or_doc schema schema_doc) p)) c.deref.ensures ∙ ap write (sym (items-RefOrSchema c.in-RefOrSchema.place)) ∙ ap (λ i. write (array_items_doc i)) (sym c.in-RefOrSchema.is)) c.write_ref_or_schema.ensures
 
 pub write_items-returns-in-False : goal.write_items-returns-in-False
 write_items-returns-in-False t c = view-Bool false ∙ sym (write-flag false) ∙ ap write (sym items-False) ∙ ap (λ i. write (array_items_doc i)) (sym c.in-False.is)
 
-pub write_additional-write_place-requires : goal.write_additional-write_place-requires
-write_additional-write_place-requires t c = (omega (arith, ap (λ q. weight (additional_properties_doc schema_doc q)) c.in-RefOr.is), tt)
+pub write_additional-write_ref_or_schema-requires : goal.write_additional-write_ref_or_schema-requires
+write_additional-write_ref_or_schema-requires t c = (omega (arith, ap (λ q. weight (additional_properties_doc schema_doc q)) c.in-RefOr.is), tt)
 
 pub write_additional-returns-in-RefOr : goal.write_additional-returns-in-RefOr
-write_additional-returns-in-RefOr t c = IfOk-weaker c.write_place.result _ _ (λ v e. e ∙ ap (λ q. write (additional_properties_doc schema_doc q)) (sym c.in-RefOr.is)) c.write_place.ensures
+write_additional-returns-in-RefOr t c = IfOk-weaker c.write_ref_or_schema.result _ _ (λ v e. e ∙ ap (λ q. write (additional_properties_doc schema_doc q)) (sym c.in-RefOr.is)) c.write_ref_or_schema.ensures
 
 pub write_additional-returns-in-FreeForm : goal.write_additional-returns-in-FreeForm
 write_additional-returns-in-FreeForm t c = view-Bool c.in-FreeForm.free ∙ sym (write-flag c.in-FreeForm.free) ∙ ap (λ q. write (additional_properties_doc schema_doc q)) (sym c.in-FreeForm.is)
@@ -100,57 +101,45 @@ write_schemas-write_schema-requires t c =
     let same : xs ≡ c.args.items.now.items = c.deref-item-items.ensures.value in
     (omega (arith, lighter_item schema_doc xs c.loop-item.item-index c.item-item.result (omega arith) c.item-item.is, ap (λ ys. weight (list_doc (docs_of (map schema_doc ys)))) same), tt)
 
-pub write_schemas-returns : goal.write_schemas-returns
-write_schemas-returns t c =
-    let xs = c.deref-item-items.result.now in
-    let same : xs ≡ c.args.items.now.items = c.deref-item-items.ensures.value in
-    write-list-of_items schema_doc c.args.items.now.items c.loop-item.list (c.loop-item.invariant ∙ ap (λ ys. map (λ x. write (schema_doc x)) ys) (take_all c.loop-item.item-index xs (omega arith) ∙ same))
+pub write_schemas-loop-item-preserved : goal.write_schemas-loop-item-preserved
+write_schemas-loop-item-preserved t c = written_item schema_doc c.deref-item-items.result.now c.loop-item.item-index c.loop-item.list.items c.push.new.self.items c.item-item.result c.in_ok-write_schema.field-0 c.loop-item.invariant (omega arith) c.item-item.is c.in_ok-write_schema.ensures c.in_ok-push.ensures.items
 
-pub write_places-write_place-requires : goal.write_places-write_place-requires
-write_places-write_place-requires t c =
+pub write_schemas-returns : goal.write_schemas-returns
+write_schemas-returns t c = written_list schema_doc c.deref-item-items.result.now c.loop-item.item-index c.args.items.now.items c.loop-item.list c.loop-item.invariant (omega arith) c.deref-item-items.ensures.value
+
+pub write_ref_or_schema_list-write_ref_or_schema-requires : goal.write_ref_or_schema_list-write_ref_or_schema-requires
+write_ref_or_schema_list-write_ref_or_schema-requires t c =
     let xs = c.deref-item-items.result.now in
     let same : xs ≡ c.args.items.now.items = c.deref-item-items.ensures.value in
     (omega (arith, lighter_item (ref_or_doc schema schema_doc) xs c.loop-item.item-index c.item-item.result (omega arith) c.item-item.is, ap (λ ys. weight (list_doc (docs_of (map (ref_or_doc schema schema_doc) ys)))) same), tt)
 
-pub write_places-returns : goal.write_places-returns
-write_places-returns t c =
-    let xs = c.deref-item-items.result.now in
-    let same : xs ≡ c.args.items.now.items = c.deref-item-items.ensures.value in
-    write-list-of_items (ref_or_doc schema schema_doc) c.args.items.now.items c.loop-item.list (c.loop-item.invariant ∙ ap (λ ys. map (λ x. write ((ref_or_doc schema schema_doc) x)) ys) (take_all c.loop-item.item-index xs (omega arith) ∙ same))
+pub write_ref_or_schema_list-loop-item-preserved : goal.write_ref_or_schema_list-loop-item-preserved
+write_ref_or_schema_list-loop-item-preserved t c = written_item (ref_or_doc schema schema_doc) c.deref-item-items.result.now c.loop-item.item-index c.loop-item.list.items c.push.new.self.items c.item-item.result c.in_ok-write_ref_or_schema.field-0 c.loop-item.invariant (omega arith) c.item-item.is c.in_ok-write_ref_or_schema.ensures c.in_ok-push.ensures.items
 
-pub write_properties-write_place-requires : goal.write_properties-write_place-requires
-write_properties-write_place-requires t c =
-    let l = c.loop-key in
-    let done = l.invariant.0 in
+pub write_ref_or_schema_list-returns : goal.write_ref_or_schema_list-returns
+write_ref_or_schema_list-returns t c = written_list (ref_or_doc schema schema_doc) c.deref-item-items.result.now c.loop-item.item-index c.args.items.now.items c.loop-item.list c.loop-item.invariant (omega arith) c.deref-item-items.ensures.value
+
+pub write_ref_or_schema_map-write_ref_or_schema-requires : goal.write_ref_or_schema_map-write_ref_or_schema-requires
+write_ref_or_schema_map-write_ref_or_schema-requires t c =
     let e : String Global × RefOr Schema = (c.in-Some.key.now, c.in-Some.member.now) in
-    let left = c.next.new.self in
-    let f = λ (x : RefOr Schema). write ((ref_or_doc schema schema_doc) x) in
-    let all : c.args.properties.now.entries ≡ done ++ e ∷ left = l.invariant.1 ∙ ap (λ es. done ++ es) c.in-Some.ensures.steps in
-    (omega (arith, lighter_member (ref_or_doc schema schema_doc) c.args.properties.now.entries done e left all), tt)
+    let all : c.args.properties.now.entries ≡ c.loop-key.invariant.done ++ e ∷ c.next.new.self = c.loop-key.invariant.split ∙ ap (λ es. c.loop-key.invariant.done ++ es) c.in-Some.ensures.steps in
+    (omega (arith, lighter_member (ref_or_doc schema schema_doc) c.args.properties.now.entries c.loop-key.invariant.done e c.next.new.self all), tt)
 
-pub write_properties-loop-key-preserved : goal.write_properties-loop-key-preserved
-write_properties-loop-key-preserved t c =
-    let l = c.loop-key in
-    let done = l.invariant.0 in
-    let e : String Global × RefOr Schema = (c.in-Some.key.now, c.in-Some.member.now) in
-    let left = c.next.new.self in
-    let f = λ (x : RefOr Schema). write ((ref_or_doc schema schema_doc) x) in
-    let all : c.args.properties.now.entries ≡ done ++ e ∷ left = l.invariant.1 ∙ ap (λ es. done ++ es) c.in-Some.ensures.steps in
-    let last = put_last f done e left (subst (λ es. IsStrictlySortedBy string_cmp (keys_of es)) all c.iter-key-items.ensures.ordered) in (
-      done ++ e ∷ [],
-      all ∙ sym (append_assoc done (e ∷ []) left),
-      c.in_ok-put.ensures.ok ∙ rw (c.as_str.ensures.value, c.in_ok-value.ensures, l.invariant.2) last,
-    )
+pub write_ref_or_schema_map-loop-key-init : goal.write_ref_or_schema_map-loop-key-init
+write_ref_or_schema_map-loop-key-init t c =
+    let none : members_view c.new-members.result.entries ≡ no_members = search rules in
+    written_begun (ref_or_doc schema schema_doc) _ _ _ (c.into_iter-key-iterator.ensures.into_iter_gives ∙ c.iter-key-items.ensures.rest) none
 
-pub write_properties-returns : goal.write_properties-returns
-write_properties-returns t c =
-    let l = c.loop-key in
-    let f = λ (x : RefOr Schema). write ((ref_or_doc schema schema_doc) x) in
-    let all : l.invariant.0 ≡ c.args.properties.now.entries = sym (l.invariant.1 ∙ ap (λ es. l.invariant.0 ++ es) c.in-None.ensures.steps.0 ∙ append-nil l.invariant.0) in
-    write-map_of_entries (ref_or_doc schema schema_doc) c.args.properties.now.entries l.members (l.invariant.2 ∙ ap (members_by f) all)
+pub write_ref_or_schema_map-loop-key-preserved : goal.write_ref_or_schema_map-loop-key-preserved
+write_ref_or_schema_map-loop-key-preserved t c =
+    written_step (ref_or_doc schema schema_doc) _ _ _ _ _ _ (view c.in_ok-value.value) c.loop-key.invariant c.in-Some.ensures.steps c.iter-key-items.ensures.ordered c.in_ok-value.ensures
+    (c.in_ok-put.ensures.ok ∙ ap (λ name. put name (view c.in_ok-value.value) (members_view c.loop-key.members.entries)) c.as_str.ensures.value)
 
-pub put_content_schema-write_place-requires : goal.put_content_schema-write_place-requires
-put_content_schema-write_place-requires t c = (omega (arith, ap (λ o. weight (content_schema_doc o)) c.in-Some.is, lighter_some ((ref_or_doc schema schema_doc) c.in-Some.value.value), ap (λ p. weight ((ref_or_doc schema schema_doc) p)) c.deref.ensures), tt)
+pub write_ref_or_schema_map-returns : goal.write_ref_or_schema_map-returns
+write_ref_or_schema_map-returns t c = written_map (ref_or_doc schema schema_doc) _ _ _ c.loop-key.invariant c.in-None.ensures.steps.0
+
+pub put_content_schema-write_ref_or_schema-requires : goal.put_content_schema-write_ref_or_schema-requires
+put_content_schema-write_ref_or_schema-requires t c = (omega (arith, ap (λ o. weight (content_schema_doc o)) c.in-Some.is, lighter_some ((ref_or_doc schema schema_doc) c.in-Some.value.value), ap (λ p. weight ((ref_or_doc schema schema_doc) p)) c.deref.ensures), tt)
 
 pub put_content_schema-returns-in_ok-written-in-Some : goal.put_content_schema-returns-in_ok-written-in-Some
 put_content_schema-returns-in_ok-written-in-Some t c =
@@ -196,8 +185,8 @@ pub put_properties-returns : goal.put_properties-returns
 put_properties-returns t c =
     on_ok c.put.result c.put.ensures.ok (λ e. default_written (codes "properties") (map_of (ref_or schema)) (map_of_docs (ref_or_doc schema schema_doc) c.args.properties.now) (view c.in_ok-written.written) _ _ e c.in_ok-written.ensures (sym (vacant_entries (ref_or_doc schema schema_doc) _ c.args.properties.now.entries c.is_empty.ensures) ∙ c.if-is_empty.false))
 
-pub write_one_of-write_places-requires : goal.write_one_of-write_places-requires
-write_one_of-write_places-requires t c = (omega (arith, lighter_one_of c.args.one_of.now), tt)
+pub write_one_of-write_ref_or_schema_list-requires : goal.write_one_of-write_ref_or_schema_list-requires
+write_one_of-write_ref_or_schema_list-requires t c = (omega (arith, lighter_one_of c.args.one_of.now), tt)
 
 pub write_one_of-returns : goal.write_one_of-returns
 write_one_of-returns t c =
@@ -210,8 +199,8 @@ write_one_of-returns t c =
     (rows-cons _ _ _ _ _ _ _ c.in_ok-write_option-3.ensures.ok
     (rows-nil _)))))))
 
-pub write_all_of-write_places-requires : goal.write_all_of-write_places-requires
-write_all_of-write_places-requires t c = (omega (arith, lighter_all_of c.args.all_of.now), tt)
+pub write_all_of-write_ref_or_schema_list-requires : goal.write_all_of-write_ref_or_schema_list-requires
+write_all_of-write_ref_or_schema_list-requires t c = (omega (arith, lighter_all_of c.args.all_of.now), tt)
 
 pub write_all_of-returns : goal.write_all_of-returns
 write_all_of-returns t c =
@@ -221,8 +210,8 @@ write_all_of-returns t c =
     (rows-cons _ _ _ _ _ _ _ c.in_ok-write_option.ensures.ok
     (sym c.in_ok-write_combination.ensures))))
 
-pub write_any_of-write_places-requires : goal.write_any_of-write_places-requires
-write_any_of-write_places-requires t c = (omega (arith, lighter_any_of c.args.any_of.now), tt)
+pub write_any_of-write_ref_or_schema_list-requires : goal.write_any_of-write_ref_or_schema_list-requires
+write_any_of-write_ref_or_schema_list-requires t c = (omega (arith, lighter_any_of c.args.any_of.now), tt)
 
 pub write_any_of-returns : goal.write_any_of-returns
 write_any_of-returns t c =

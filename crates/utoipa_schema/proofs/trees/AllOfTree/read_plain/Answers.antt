@@ -1,14 +1,8 @@
 use Rattle.std.proofs.Common.{arith}
 use Rattle.serde_json.specs.View.{view}
+use Rattle.utoipa_schema.proofs.Readers.{reads_within}
 use Rattle.utoipa_schema.proofs.SchemaMembers.{schema_values}
 use Rattle.utoipa_schema.proofs.trees.AllOfTree.read_plain.Goals as goal
 
 pub returns : goal.returns
-returns c =
-    record {
-      ok = c.read_all_of.ensures.ok;
-      err = c.read_all_of.ensures.err;
-      grows = c.read_all_of.ensures.grows;
-      at_most = omega (arith, schema_values (view c.args.tree.now), c.read_all_of.ensures.at_most);
-      at_least = c.read_all_of.ensures.at_least;
-    }
+returns c = reads_within _ _ _ _ _ _ _ c.read_all_of.ensures (omega (arith, schema_values (view c.args.tree.now)))
