@@ -36,10 +36,12 @@ def lines_of(path):
 
 
 def type_named(line):
-    """Returns what the checker calls an impl or a trait: `impl<T: Tree> Tree for Vec<T>` is VecTree."""
+    """Returns what the checker calls an impl or a trait: `impl<T: Tree> Tree for Vec<T>` is VecTree, one for a pair Tuple2.."""
     kind, taken, named = re.match(r"(?:pub )?(impl|trait)(?:<(.*?)>)? (.*?)[:{]", line).groups()
     variables = re.findall(r"(?:^|, )'?(\w+)", taken or "") if kind == "impl" else []
     of_trait, _, of_type = named.replace("&", "Ref ").replace("[", "Slice ").rpartition(" for ")
+    if of_type.startswith("("):
+        of_type = "Tuple%d" % (of_type.count(",") + 1) if "," in of_type else "Unit"
     words = [it for it in re.findall(r"\w+", of_type) + re.findall(r"\w+", of_trait) if it not in variables]
     return "".join(it[0].upper() + it[1:] for it in words)
 
