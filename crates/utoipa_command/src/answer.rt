@@ -13,7 +13,8 @@ use utoipa_base::{RefOr, Tree};
 use utoipa_leaf::server::Server;
 use utoipa_schema::Schema;
 
-/// The line with which the command answers a text.
+/// The line with which the command answers a text. Fails with why the text is refused: no JSON text, a fraction, no document of
+/// the command's kind, or want of memory.
 pub fn answer(alloc: Global, command: Command, text: &[u8]) -> Result<Vec<u8>, Refusal>
     ensures ok { IfOk result (λ line. IsAnswer command text.now line.items) }
     ensures err { IfErr result (IsCause command text.now) }

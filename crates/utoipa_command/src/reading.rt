@@ -6,7 +6,8 @@ use crate::refusal::Refusal;
 use crate::source::Source;
 use std::alloc::Global;
 
-/// All that the reader gives, to its end. Every fault of the reader ends it, an interruption too.
+/// All that the reader gives, to its end. Fails with `Read` at the first fault of the reader, an interruption too, and with
+/// `Memory` where memory runs out.
 pub fn read_all<R: Source>(alloc: Global, input: &mut R) -> Result<Vec<u8>, Refusal>
     ensures text { IfOk result (λ text. IfSome (R.remaining input.old) (λ bytes. text.items ≡ bytes)) }
     ensures end { OnOk result (IsAtEnd (R.remaining input.new)) }

@@ -6,8 +6,8 @@ ghost use Rattle.utoipa_command.specs.Bytes.{AppendsPart, AppendsFront};
 use crate::refusal::Refusal;
 use crate::sink::Sink;
 
-/// Writes the whole text, in as few writes as the writer allows. A fault, or a write that takes
-/// nothing, ends it.
+/// Writes the whole text, in as few writes as the writer allows. Fails with `Write` at the first fault, or at a write that
+/// takes nothing; then a part of the text has been written.
 pub fn write_whole<W: Sink>(out: &mut W, text: &[u8]) -> Result<(), Refusal>
     ensures whole { OnOk result (Appends (W.contents out.old) (W.contents out.new) text.now) }
     ensures err { IfErr result (λ w. (w ≡ Refusal.Write) × (W.room out.old < length text.now)) }
