@@ -27,3 +27,5 @@ pub mod TableParts
 pub mod Members
 pub mod Weights
 pub mod Tried
+pub mod FieldsInOrder
+pub mod Tokens

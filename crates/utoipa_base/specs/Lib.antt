@@ -25,3 +25,6 @@ pub mod Flags
 pub mod Numbers
 pub mod Vocabularies
 pub mod Mapped
+pub mod Printed
+pub mod InOrder
+pub mod Pending

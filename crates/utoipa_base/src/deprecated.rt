@@ -7,6 +7,7 @@ use crate::fault::ReadFault;
 use crate::readings::Readings;
 use crate::scalar::read_flag;
 use crate::tree::Tree;
+use json::Writer;
 use serde_json::Value;
 use std::alloc::{AllocError, Global};
 
@@ -21,7 +22,7 @@ pub enum Deprecated {
 }
 
 /// True or false.
-#[tactic(auto, using(crate::proofs::ByKind::by_kind, crate::proofs::Places::places))]
+#[tactic(auto, using(crate::proofs::ByKind::by_kind, crate::proofs::Places::places, crate::proofs::Tokens::by_tokens))]
 impl Tree for Deprecated {
     ghost kind = { flag };
 
@@ -45,6 +46,13 @@ impl Tree for Deprecated {
         match self {
             Deprecated::True => Ok(Value::Bool(true)),
             Deprecated::False => Ok(Value::Bool(false)),
+        }
+    }
+
+    fn print(&self, _alloc: Global, out: &mut Writer) -> Result<(), AllocError> {
+        match self {
+            Deprecated::True => out.boolean(true),
+            Deprecated::False => out.boolean(false),
         }
     }
 

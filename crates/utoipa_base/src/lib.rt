@@ -11,6 +11,8 @@ pub mod fraction;
 pub mod laws;
 pub mod lists;
 pub mod number;
+pub mod pending;
+pub mod print;
 pub mod readings;
 pub mod refs;
 pub mod required;
@@ -35,6 +37,8 @@ pub use fault::{ReadFault, fitting};
 pub use fraction::{has_fraction, members_have_fraction};
 pub use lists::{list_from, list_if_any};
 pub use number::Number;
+pub use pending::PendingExtensions;
+pub use print::{print_members, print_tree};
 pub use readings::{Counted, Readings};
 pub use refs::{Ref, RefBuilder, RefOr};
 pub use required::Required;
@@ -43,6 +47,8 @@ pub use rows::{
     write_required,
 };
 pub use same_trees::{same_members, same_tree};
-pub use table::{read_table, read_table_alone, write_table, write_table_alone};
+pub use table::{
+    print_row, print_table, read_table, read_table_alone, write_table, write_table_alone,
+};
 pub use tree::{Place, Tree};
-pub use words::{Word, read_word, write_word};
+pub use words::{Word, print_word, read_word, write_word};

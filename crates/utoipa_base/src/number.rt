@@ -7,6 +7,7 @@ ghost use Rattle.utoipa_base.specs.declared.number.Number.TheVariants.{Int, UInt
 use crate::fault::ReadFault;
 use crate::readings::Readings;
 use crate::tree::Tree;
+use json::Writer;
 use serde_json::Value;
 use std::alloc::{AllocError, Global};
 
@@ -22,7 +23,7 @@ pub enum Number {
 }
 
 /// A whole number.
-#[tactic(auto, using(crate::proofs::Numerals::by_numeral, crate::proofs::ByKind::by_kind))]
+#[tactic(auto, using(crate::proofs::Numerals::by_numeral, crate::proofs::ByKind::by_kind, crate::proofs::Tokens::by_tokens))]
 impl Tree for Number {
     ghost kind = { numeral };
 
@@ -48,6 +49,13 @@ impl Tree for Number {
         match self {
             Number::Int(number) => Ok(Value::from(*number as i64)),
             Number::UInt(number) => Ok(Value::from(*number as u64)),
+        }
+    }
+
+    fn print(&self, _alloc: Global, out: &mut Writer) -> Result<(), AllocError> {
+        match self {
+            Number::Int(number) => out.i64(*number as i64),
+            Number::UInt(number) => out.u64(*number as u64),
         }
     }
 

@@ -5,9 +5,10 @@ ghost use Rattle.utoipa_base.specs.Refs.{reference_doc, ref_or_doc};
 
 use crate::fault::ReadFault;
 use crate::readings::Readings;
-use crate::table::{read_table_alone, write_table_alone};
+use crate::table::{print_table, read_table_alone, write_table_alone};
 use crate::tree::{Place, Tree};
 use crate::{clone_table_alone, from_fields_alone, row_names, row_values};
+use json::Writer;
 use serde_json::Value;
 use std::alloc::{AllocError, Global};
 
@@ -27,6 +28,22 @@ macro_rules! ref_rows {
             optional "writeOnly" write_only,
             optional "default" default,
             optional "title" title,
+        }
+    };
+}
+
+// The same, in the order of the members' names.
+macro_rules! ref_rows_by_name {
+    ($lines:ident!($($arguments:tt)*)) => {
+        $lines! {
+            $($arguments)*;
+            required "$ref" ref_location,
+            optional "default" default,
+            defaulted "description" description,
+            optional "readOnly" read_only,
+            defaulted "summary" summary,
+            optional "title" title,
+            optional "writeOnly" write_only,
         }
     };
 }
@@ -150,6 +167,12 @@ impl Tree for Ref {
         )
     }
 
+    fn print(&self, alloc: Global, out: &mut Writer) -> Result<(), AllocError> {
+        let names = ref_rows_by_name!(row_names!());
+        let values = ref_rows_by_name!(row_values!(self));
+        print_table(alloc, out, names, &values, &None)
+    }
+
     fn try_clone(&self, alloc: Global) -> Result<Ref, AllocError> {
         ref_rows!(clone_table_alone!(Ref, self, alloc))
     }
@@ -176,6 +199,13 @@ impl<T: Place> Tree for RefOr<T> {
         match self {
             RefOr::Ref(reference) => reference.to_value(alloc),
             RefOr::T(value) => value.to_value(alloc),
+        }
+    }
+
+    fn print(&self, alloc: Global, out: &mut Writer) -> Result<(), AllocError> {
+        match self {
+            RefOr::Ref(reference) => reference.print(alloc, out),
+            RefOr::T(value) => value.print(alloc, out),
         }
     }
 

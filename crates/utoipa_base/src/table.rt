@@ -4,29 +4,34 @@
 //! the names of the rows ([`row_names!`](crate::row_names)), the value from its fields once they are read
 //! ([`from_fields!`](crate::from_fields)), the fields to be written ([`row_values!`](crate::row_values)), a copy
 //! ([`clone_table!`](crate::clone_table)) and, for the types that merging compares, the bodies of `has_fraction` and `same`.
-ghost use Rattle.std.specs.Prelude.{◌≡◌, ◌+◌, [], List, ℕ, length, true, false, None, option_map, IfOk, OnOk, OnErr};
+ghost use Rattle.std.specs.Prelude.{refl, ◌≡◌, ◌+◌, [], ◌∷◌, List, ℕ, length, true, false, None, option_map, IfOk, OnOk, OnErr};
 ghost use Rattle.serde_json.specs.Find.{get};
 ghost use Rattle.serde_json.specs.View.{view, members_view};
 ghost use Rattle.utoipa_base.specs.Docs.{Doc, Docs, no_docs, doc, table_doc, list_doc};
 ghost use Rattle.utoipa_base.specs.Extensions.{extensions_view};
 ghost use Rattle.utoipa_base.specs.Fields.{field, put_field};
+ghost use Rattle.utoipa_base.specs.InOrder.{row_members, PrintsAmong, IsObjectBy};
 ghost use Rattle.utoipa_base.specs.Kinds.{ObjectType, Row, named, required, optional, or_null, defaulted};
+ghost use Rattle.utoipa_base.specs.Pending.{pending_view};
+ghost use Rattle.utoipa_base.specs.Printed.{Prints};
 ghost use Rattle.utoipa_base.specs.Reading.{read};
 ghost use Rattle.utoipa_base.specs.Reads.{Reads};
 ghost use Rattle.utoipa_base.specs.Rows.{part, rows_values, texts, rows_from};
 ghost use Rattle.utoipa_base.specs.Tables.{row, table, has_extensions};
 ghost use Rattle.utoipa_base.specs.Values.{values, values_of};
 ghost use Rattle.utoipa_base.specs.Views.{option_of};
-ghost use Rattle.utoipa_base.specs.Writing.{write, write_rows};
+ghost use Rattle.utoipa_base.specs.Writing.{write, write_rows, left_out};
 
 use crate::empty::{Empty, row_or_empty, write_unless_empty};
 use crate::extensions::{Extensions, read_extensions, written_extensions};
 use crate::fault::ReadFault;
+use crate::pending::PendingExtensions;
 use crate::readings::Readings;
 use crate::rows::{
     row_option, row_or_null, row_required, write_option, write_or_null, write_required,
 };
 use crate::tree::Tree;
+use json::Writer;
 use serde_json::{Map, Value};
 use std::alloc::{AllocError, Global};
 
@@ -226,6 +231,9 @@ pub fn read_table_alone<R: RowFields>(
 pub trait RowValue {
     ghost line: { List ℕ → Row };
 
+    // The row is of the name that is given.
+    ghost is_named: { (name : List ℕ) → (line name).name ≡ name };
+
     ghost doc: { Self → Doc };
 
     /// Writes the row's member. Fails where memory runs out; then the members are as they were.
@@ -238,6 +246,14 @@ pub trait RowValue {
         ensures ok { OnOk result (members_view members.new.entries
             ≡ put_field (line name.now) (doc self.now) (members_view members.old.entries)) }
         ensures err { OnErr result (members.new.entries ≡ members.old.entries) };
+
+    /// Whether the row's member is left out.
+    fn is_left_out(&self) -> bool
+        ensures { (name : List ℕ) → result ≡ left_out (line name).mark (doc self.now) };
+
+    /// Prints what stands at the row's member, where it is not left out. Fails where memory runs out.
+    fn print(&self, alloc: Global, out: &mut Writer) -> Result<(), AllocError>
+        ensures { OnOk result (Prints (write (doc self.now)) out.old out.new) };
 }
 
 /// The value of a required member, to be written.
@@ -259,6 +275,8 @@ pub struct DefaultedValue<'a, T>(pub &'a T);
 impl<'a, T: Tree> RowValue for RequiredValue<'a, T> {
     ghost line = { λ name. row name required T.kind };
 
+    ghost is_named = { λ _. refl };
+
     ghost doc = { λ v. T.doc v.0.now };
 
     fn write(
@@ -269,10 +287,20 @@ impl<'a, T: Tree> RowValue for RequiredValue<'a, T> {
     ) -> Result<(), AllocError> {
         write_required(members, alloc, name, self.0)
     }
+
+    fn is_left_out(&self) -> bool {
+        false
+    }
+
+    fn print(&self, alloc: Global, out: &mut Writer) -> Result<(), AllocError> {
+        self.0.print(alloc, out)
+    }
 }
 
 impl<'a, T: Tree> RowValue for OptionalValue<'a, T> {
     ghost line = { λ name. row name optional T.kind };
+
+    ghost is_named = { λ _. refl };
 
     ghost doc = { λ v. option_of T.doc v.0.now };
 
@@ -284,10 +312,23 @@ impl<'a, T: Tree> RowValue for OptionalValue<'a, T> {
     ) -> Result<(), AllocError> {
         write_option(members, alloc, name, self.0)
     }
+
+    fn is_left_out(&self) -> bool {
+        self.0.is_none()
+    }
+
+    fn print(&self, alloc: Global, out: &mut Writer) -> Result<(), AllocError> {
+        match self.0 {
+            Some(value) => value.print(alloc, out),
+            None => out.null(),
+        }
+    }
 }
 
 impl<'a, T: Tree> RowValue for OrNullValue<'a, T> {
     ghost line = { λ name. row name or_null T.kind };
+
+    ghost is_named = { λ _. refl };
 
     ghost doc = { λ v. option_of T.doc v.0.now };
 
@@ -299,10 +340,23 @@ impl<'a, T: Tree> RowValue for OrNullValue<'a, T> {
     ) -> Result<(), AllocError> {
         write_or_null(members, alloc, name, self.0)
     }
+
+    fn is_left_out(&self) -> bool {
+        false
+    }
+
+    fn print(&self, alloc: Global, out: &mut Writer) -> Result<(), AllocError> {
+        match self.0 {
+            Some(value) => value.print(alloc, out),
+            None => out.null(),
+        }
+    }
 }
 
 impl<'a, T: Empty> RowValue for DefaultedValue<'a, T> {
     ghost line = { λ name. row name defaulted T.kind };
+
+    ghost is_named = { λ _. refl };
 
     ghost doc = { λ v. T.doc v.0.now };
 
@@ -313,6 +367,14 @@ impl<'a, T: Empty> RowValue for DefaultedValue<'a, T> {
         name: &str,
     ) -> Result<(), AllocError> {
         write_unless_empty(members, alloc, name, self.0)
+    }
+
+    fn is_left_out(&self) -> bool {
+        self.0.is_left_out()
+    }
+
+    fn print(&self, alloc: Global, out: &mut Writer) -> Result<(), AllocError> {
+        self.0.print(alloc, out)
     }
 }
 
@@ -334,6 +396,19 @@ pub trait RowValues {
         requires { length names.now ≡ count }
         ensures { IfOk result (λ all. members_view all.entries
             ≡ write_rows (docs self.now) (rows (texts names.now)) (members_view members.entries)) };
+
+    /// Prints the rows' members that are not left out, by their names, which have to be in their order: each after the
+    /// extensions that come before it. Answers the extensions that are left. Fails where memory runs out.
+    fn print<'a>(
+        &self,
+        alloc: Global,
+        out: &mut Writer,
+        names: &[&str],
+        pending: PendingExtensions<'a>,
+    ) -> Result<PendingExtensions<'a>, AllocError>
+        requires { length names.now ≡ count }
+        ensures { IfOk result (λ left. PrintsAmong (row_members (docs self.now) (rows (texts names.now)))
+            (pending_view pending.entry) (pending_view left) out.old out.new) };
 }
 
 impl RowValues for () {
@@ -352,6 +427,16 @@ impl RowValues for () {
     ) -> Result<Map<String, Value>, AllocError> {
         Ok(members)
     }
+
+    fn print<'a>(
+        &self,
+        _alloc: Global,
+        _out: &mut Writer,
+        _names: &[&str],
+        pending: PendingExtensions<'a>,
+    ) -> Result<PendingExtensions<'a>, AllocError> {
+        Ok(pending)
+    }
 }
 
 impl<H: RowValue, R: RowValues> RowValues for (H, R) {
@@ -369,6 +454,17 @@ impl<H: RowValue, R: RowValues> RowValues for (H, R) {
     ) -> Result<Map<String, Value>, AllocError> {
         self.0.write(&mut members, alloc, names[0])?;
         self.1.write(members, alloc, &names[1..])
+    }
+
+    fn print<'a>(
+        &self,
+        alloc: Global,
+        out: &mut Writer,
+        names: &[&str],
+        pending: PendingExtensions<'a>,
+    ) -> Result<PendingExtensions<'a>, AllocError> {
+        let later = print_row(alloc, out, names[0], &self.0, pending)?;
+        self.1.print(alloc, out, &names[1..], later)
     }
 }
 
@@ -400,4 +496,42 @@ pub fn write_table_alone<R: RowValues>(
 {
     let all = values.write(Map::new(alloc), alloc, names)?;
     Ok(Value::Object(all))
+}
+
+/// Prints the member of a row, unless it is left out, after the extensions that come before it. Answers the extensions that
+/// are left. Fails where memory runs out.
+pub fn print_row<'a, V: RowValue>(
+    alloc: Global,
+    out: &mut Writer,
+    name: &str,
+    value: &V,
+    pending: PendingExtensions<'a>,
+) -> Result<PendingExtensions<'a>, AllocError>
+    ensures { IfOk result (λ left. PrintsAmong (row_members (doc (V.doc value.now) no_docs) (V.line name.now ∷ []))
+        (pending_view pending.entry) (pending_view left) out.old out.new) }
+{
+    if value.is_left_out() {
+        return Ok(pending);
+    }
+    let later = pending.begin_member(out, name)?;
+    value.print(alloc, out)?;
+    Ok(later)
+}
+
+/// Prints an object: the rows of its table, which are given in the order of their names, with its extensions among them. Fails
+/// where memory runs out.
+pub fn print_table<R: RowValues>(
+    alloc: Global,
+    out: &mut Writer,
+    names: &[&str],
+    values: &R,
+    extensions: &Option<Extensions>,
+) -> Result<(), AllocError>
+    requires { length names.now ≡ R.count }
+    ensures { (d : Doc) → IsObjectBy d (R.docs values.now) (R.rows (texts names.now)) (option_map extensions_view extensions.now)
+        → OnOk result (Prints (write d) out.old out.new) }
+{
+    out.begin_object()?;
+    let later = values.print(alloc, out, names, PendingExtensions::of(extensions))?;
+    later.end_object(out)
 }

@@ -1,9 +1,10 @@
-ghost use Rattle.std.specs.Prelude.{refl, ◌≡◌, ◌≤◌, ◌<◌, ◌+◌, ◌↔◌, Bool, true, false, IsErrOf, Some, IfOk, IfErr};
+ghost use Rattle.std.specs.Prelude.{refl, ◌≡◌, ◌≤◌, ◌<◌, ◌+◌, ◌++◌, ◌↔◌, Bool, true, false, IsErrOf, Some, IfOk, IfErr, OnOk};
 ghost use Rattle.serde_json.specs.View.{view};
-ghost use Rattle.serde_json.specs.Written.{has_float};
+ghost use Rattle.serde_json.specs.Written.{has_float, compact_text};
 ghost use Rattle.utoipa_base.specs.Kinds.{Kind, text, flag, whole, any, list_of, map_of, ref_or, named, reference_object};
 ghost use Rattle.utoipa_base.specs.Docs.{Doc, flag_doc, whole_doc};
 ghost use Rattle.utoipa_base.specs.Faults.{Refuses};
+ghost use Rattle.utoipa_base.specs.Printed.{Prints};
 ghost use Rattle.utoipa_base.specs.Reading.{read};
 ghost use Rattle.utoipa_base.specs.Reads.{Reads};
 ghost use Rattle.utoipa_base.specs.Refs.{reference_doc, ref_or_doc};
@@ -15,9 +16,11 @@ ghost use Rattle.utoipa_base.specs.Writing.{write};
 
 use crate::fault::ReadFault;
 use crate::fraction::has_fraction;
+use crate::print::print_tree;
 use crate::readings::{Counted, Readings};
 use crate::refs::{Ref, RefOr};
 use crate::scalar::{read_flag, read_text, read_whole};
+use json::Writer;
 use serde_json::{Map, Value, put};
 use std::alloc::{AllocError, Global};
 use std::collections::BTreeMap;
@@ -45,6 +48,14 @@ pub trait Tree: Drop {
     /// An equal value. Fails where memory runs out.
     fn try_clone(&self, alloc: Global) -> Result<Self, AllocError>
         ensures { IfOk result (λ copy. doc copy ≡ doc self.now) };
+
+    /// Prints the value as JSON: the tree that it is written as, which a type that says how its values are printed does not
+    /// make. Fails where memory runs out; then some of it may have been printed.
+    fn print(&self, alloc: Global, out: &mut Writer) -> Result<(), AllocError>
+        ensures { OnOk result (Prints (write (doc self.now)) out.old out.new) }
+    {
+        print_tree(&self.to_value(alloc)?, out)
+    }
 
     // Each value is a document of the type's kind.
     ghost is_of_kind: { (x : Self) → IsOf (doc x) (value_of kind) };
@@ -91,6 +102,28 @@ pub trait Tree: Drop {
             readings: readings.number(),
         }
     }
+
+    /// The text, with the value as JSON at its end: in compact form, the members of each object in the order of their names.
+    ///
+    /// Of a value that holds a fraction, which is never read, the text of the fraction is not defined. Fails where memory runs out.
+    final fn append_json(&self, alloc: Global, text: Vec<u8>) -> Result<Vec<u8>, AllocError>
+        ensures { IfOk result (λ longer. has_float (write (doc self.now)) ≡ false
+            → longer.items ≡ text.items ++ compact_text (write (doc self.now))) }
+    {
+        let mut out = Writer::new(text);
+        self.print(alloc, &mut out)?;
+        Ok(out.into_inner())
+    }
+
+    /// The value as JSON, as [`Tree::append_json`] writes it. Fails where memory runs out.
+    final fn to_json(&self, alloc: Global) -> Result<Vec<u8>, AllocError>
+        ensures { IfOk result (λ text. has_float (write (doc self.now)) ≡ false
+            → text.items ≡ compact_text (write (doc self.now))) }
+    {
+        let mut out = Writer::new(Vec::with_capacity(alloc, 128)?);
+        self.print(alloc, &mut out)?;
+        Ok(out.into_inner())
+    }
 }
 
 /// A type that may stand in a place that a reference can take: `RefOr` reads it.
@@ -125,7 +158,7 @@ pub trait Place: Tree {
 }
 
 /// A text.
-#[tactic(auto, using(crate::proofs::ByKind::by_kind, crate::proofs::Places::places))]
+#[tactic(auto, using(crate::proofs::ByKind::by_kind, crate::proofs::Places::places, crate::proofs::Tokens::by_tokens))]
 impl Tree for String {
     ghost kind = { text };
 
@@ -145,13 +178,17 @@ impl Tree for String {
         Value::try_from_str(alloc, self.as_str())
     }
 
+    fn print(&self, _alloc: Global, out: &mut Writer) -> Result<(), AllocError> {
+        out.string(self.as_str())
+    }
+
     fn try_clone(&self, _alloc: Global) -> Result<String, AllocError> {
         self.clone()
     }
 }
 
 /// True or false.
-#[tactic(auto, using(crate::proofs::ByKind::by_kind, crate::proofs::Places::places))]
+#[tactic(auto, using(crate::proofs::ByKind::by_kind, crate::proofs::Places::places, crate::proofs::Tokens::by_tokens))]
 impl Tree for bool {
     ghost kind = { flag };
 
@@ -171,13 +208,17 @@ impl Tree for bool {
         Ok(Value::Bool(*self))
     }
 
+    fn print(&self, _alloc: Global, out: &mut Writer) -> Result<(), AllocError> {
+        out.boolean(*self)
+    }
+
     fn try_clone(&self, _alloc: Global) -> Result<bool, AllocError> {
         Ok(*self)
     }
 }
 
 /// A whole number from 0 to 18446744073709551615.
-#[tactic(auto, using(crate::proofs::ByKind::by_kind, crate::proofs::Places::places))]
+#[tactic(auto, using(crate::proofs::ByKind::by_kind, crate::proofs::Places::places, crate::proofs::Tokens::by_tokens))]
 impl Tree for usize {
     ghost kind = { whole };
 
@@ -197,13 +238,17 @@ impl Tree for usize {
         Ok(Value::from(*self as u64))
     }
 
+    fn print(&self, _alloc: Global, out: &mut Writer) -> Result<(), AllocError> {
+        out.u64(*self as u64)
+    }
+
     fn try_clone(&self, _alloc: Global) -> Result<usize, AllocError> {
         Ok(*self)
     }
 }
 
 /// Any tree.
-#[tactic(auto, using(crate::proofs::ByKind::by_kind, crate::proofs::Places::places))]
+#[tactic(auto, using(crate::proofs::ByKind::by_kind, crate::proofs::Places::places, crate::proofs::Tokens::by_tokens))]
 impl Tree for Value {
     ghost kind = { any };
 
@@ -221,6 +266,10 @@ impl Tree for Value {
 
     fn to_value(&self, _alloc: Global) -> Result<Value, AllocError> {
         self.clone()
+    }
+
+    fn print(&self, _alloc: Global, out: &mut Writer) -> Result<(), AllocError> {
+        print_tree(self, out)
     }
 
     fn try_clone(&self, _alloc: Global) -> Result<Value, AllocError> {
@@ -258,6 +307,14 @@ impl<T: Tree> Tree for Vec<T> {
             list.push(item.to_value(alloc)?)?;
         }
         Ok(Value::Array(list))
+    }
+
+    fn print(&self, alloc: Global, out: &mut Writer) -> Result<(), AllocError> {
+        out.begin_array()?;
+        for item in self {
+            item.print(alloc, out)?;
+        }
+        out.end_array()
     }
 
     fn try_clone(&self, alloc: Global) -> Result<Vec<T>, AllocError> {
@@ -301,6 +358,15 @@ impl<T: Tree> Tree for BTreeMap<String, T> {
             put(&mut members, alloc, key.as_str(), member.to_value(alloc)?)?;
         }
         Ok(Value::Object(members))
+    }
+
+    fn print(&self, alloc: Global, out: &mut Writer) -> Result<(), AllocError> {
+        out.begin_object()?;
+        for (key, member) in self.iter() {
+            out.key(key.as_str())?;
+            member.print(alloc, out)?;
+        }
+        out.end_object()
     }
 
     fn try_clone(&self, alloc: Global) -> Result<BTreeMap<String, T>, AllocError> {

@@ -1,16 +1,18 @@
 //! Types whose values are the words of a vocabulary, read from a text and written as it.
-ghost use Rattle.std.specs.Prelude.{◌≡◌, ◌↔◌, ℕ, List, None, Some, IfOk, IfErr, is_some, true, false, map};
+ghost use Rattle.std.specs.Prelude.{◌≡◌, ◌↔◌, ℕ, List, None, Some, IfOk, IfErr, OnOk, is_some, true, false, map};
 ghost use Rattle.serde_json.specs.Find.{as_str};
 ghost use Rattle.serde_json.specs.View.{view};
 ghost use Rattle.utoipa_base.specs.Docs.{word_doc};
 ghost use Rattle.utoipa_base.specs.Faults.{Refuses};
 ghost use Rattle.utoipa_base.specs.Kinds.{Vocabulary, word_of};
+ghost use Rattle.utoipa_base.specs.Printed.{Prints};
 ghost use Rattle.utoipa_base.specs.Reading.{read};
 ghost use Rattle.utoipa_base.specs.Vocabularies.{with_text};
 ghost use Rattle.utoipa_base.specs.Words.{words, is_word};
 ghost use Rattle.utoipa_base.specs.Writing.{write};
 
 use crate::fault::ReadFault;
+use json::Writer;
 use serde_json::Value;
 use std::alloc::{AllocError, Global};
 
@@ -68,4 +70,12 @@ pub fn write_word<W: Word>(alloc: Global, word: &W) -> Result<Value, AllocError>
     ensures { IfOk result (λ v. view v ≡ write (word_doc (W.spelling word.now))) }
 {
     Value::try_from_str(alloc, word.as_text())
+}
+
+/// Prints the word of a value. Fails where memory runs out.
+#[tactic(auto, using(crate::proofs::Tokens::by_tokens))]
+pub fn print_word<W: Word>(out: &mut Writer, word: &W) -> Result<(), AllocError>
+    ensures { OnOk result (Prints (write (word_doc (W.spelling word.now))) out.old out.new) }
+{
+    out.string(word.as_text())
 }
