@@ -32,6 +32,13 @@ pub returns : goal.returns
 returns c = c.{call}.ensures {table} refl
 """
 
+PRINTED = """{header}use Rattle.std.proofs.Common.{{refl}}
+use {path}.print.Goals as goal
+
+pub returns : goal.returns
+returns c = c.print_table.ensures _ refl
+"""
+
 
 def answers(crate, module, name):
     with open(os.path.join(ROOT, "crates", crate, "src", module + ".rt")) as file:
@@ -46,7 +53,7 @@ def answers(crate, module, name):
         "table": table,
         "call": call,
     }
-    for function, text in (("read_plain", READ), ("to_value", WRITTEN)):
+    for function, text in (("read_plain", READ), ("to_value", WRITTEN), ("print", PRINTED)):
         folder = os.path.join(ROOT, "crates", crate, "proofs", module, name + "Tree", function)
         os.makedirs(folder, exist_ok=True)
         with open(os.path.join(folder, "Answers.antt"), "w") as file:

@@ -2,12 +2,10 @@
 ghost use Rattle.std.specs.Prelude.{◌≡◌, [], refl, false, string_bytes};
 ghost use Rattle.utoipa_base.specs.Kinds.{named, example_object};
 
+use json::Writer;
 use serde_json::Value;
 use std::alloc::{AllocError, Global};
-use utoipa_base::{
-    Extensions, Place, ReadFault, Readings, Tree, clone_table, from_fields, read_table, row_names,
-    row_values, write_table,
-};
+use utoipa_base::{Extensions, Place, ReadFault, Readings, Tree, clone_table, from_fields, read_table, row_names, row_values, write_table, print_table};
 
 // The rows of an example, in the order of its member table: mark, member, field.
 macro_rules! example_rows {
@@ -18,6 +16,19 @@ macro_rules! example_rows {
             defaulted "description" description,
             optional "value" value,
             defaulted "externalValue" external_value,
+        }
+    };
+}
+
+// The same, in the order of the members' names.
+macro_rules! example_rows_by_name {
+    ($lines:ident!($($arguments:tt)*)) => {
+        $lines! {
+            $($arguments)*;
+            defaulted "description" description,
+            defaulted "externalValue" external_value,
+            defaulted "summary" summary,
+            optional "value" value,
         }
     };
 }
@@ -71,6 +82,12 @@ impl Tree for Example {
         let names = example_rows!(row_names!());
         let values = example_rows!(row_values!(self));
         write_table(alloc, names, &values, &self.extensions)
+    }
+
+    fn print(&self, alloc: Global, out: &mut Writer) -> Result<(), AllocError> {
+        let names = example_rows_by_name!(row_names!());
+        let values = example_rows_by_name!(row_values!(self));
+        print_table(alloc, out, names, &values, &self.extensions)
     }
 
     fn try_clone(&self, alloc: Global) -> Result<Example, AllocError> {

@@ -3,12 +3,10 @@ ghost use Rattle.std.specs.Prelude.{◌≡◌, ◌↔◌, [], refl, false, IfOk,
 ghost use Rattle.utoipa_base.specs.Kinds.{named, external_docs_object};
 ghost use Rattle.utoipa_base.specs.WellFormed.{has_fraction};
 
+use json::Writer;
 use serde_json::Value;
 use std::alloc::{AllocError, Global};
-use utoipa_base::{
-    Extensions, ReadFault, Readings, Same, Tree, clone_table, from_fields, read_table, row_names,
-    row_values, same_table, table_has_fraction, write_table,
-};
+use utoipa_base::{Extensions, ReadFault, Readings, Same, Tree, clone_table, from_fields, read_table, row_names, row_values, same_table, table_has_fraction, write_table, print_table};
 
 // The rows of external documentation, in the order of its member table: mark, member, field.
 macro_rules! external_docs_rows {
@@ -17,6 +15,17 @@ macro_rules! external_docs_rows {
             $($arguments)*;
             required "url" url,
             or_null "description" description,
+        }
+    };
+}
+
+// The same, in the order of the members' names.
+macro_rules! external_docs_rows_by_name {
+    ($lines:ident!($($arguments:tt)*)) => {
+        $lines! {
+            $($arguments)*;
+            or_null "description" description,
+            required "url" url,
         }
     };
 }
@@ -104,6 +113,12 @@ impl Tree for ExternalDocs {
         let names = external_docs_rows!(row_names!());
         let values = external_docs_rows!(row_values!(self));
         write_table(alloc, names, &values, &self.extensions)
+    }
+
+    fn print(&self, alloc: Global, out: &mut Writer) -> Result<(), AllocError> {
+        let names = external_docs_rows_by_name!(row_names!());
+        let values = external_docs_rows_by_name!(row_values!(self));
+        print_table(alloc, out, names, &values, &self.extensions)
     }
 
     fn try_clone(&self, alloc: Global) -> Result<ExternalDocs, AllocError> {

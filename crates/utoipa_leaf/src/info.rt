@@ -2,12 +2,10 @@
 ghost use Rattle.std.specs.Prelude.{◌≡◌, [], refl, false, string_bytes};
 ghost use Rattle.utoipa_base.specs.Kinds.{named, info_object, contact_object, license_object};
 
+use json::Writer;
 use serde_json::Value;
 use std::alloc::{AllocError, Global};
-use utoipa_base::{
-    Extensions, ReadFault, Readings, Tree, clone_table, from_fields, read_table, row_names,
-    row_values, write_table,
-};
+use utoipa_base::{Extensions, ReadFault, Readings, Tree, clone_table, from_fields, read_table, row_names, row_values, write_table, print_table};
 
 // The rows of an info object, in the order of its member table: mark, member, field.
 macro_rules! info_rows {
@@ -19,6 +17,21 @@ macro_rules! info_rows {
             optional "termsOfService" terms_of_service,
             optional "contact" contact,
             optional "license" license,
+            required "version" version,
+        }
+    };
+}
+
+// The same, in the order of the members' names.
+macro_rules! info_rows_by_name {
+    ($lines:ident!($($arguments:tt)*)) => {
+        $lines! {
+            $($arguments)*;
+            optional "contact" contact,
+            optional "description" description,
+            optional "license" license,
+            optional "termsOfService" terms_of_service,
+            required "title" title,
             required "version" version,
         }
     };
@@ -55,6 +68,18 @@ macro_rules! contact_rows {
     };
 }
 
+// The same, in the order of the members' names.
+macro_rules! contact_rows_by_name {
+    ($lines:ident!($($arguments:tt)*)) => {
+        $lines! {
+            $($arguments)*;
+            optional "email" email,
+            optional "name" name,
+            optional "url" url,
+        }
+    };
+}
+
 /// A Contact Object (OpenAPI 3.1, section 4.8.3): whom to ask about an API.
 #[derive(Debug, Drop)]
 pub struct Contact {
@@ -76,6 +101,18 @@ macro_rules! license_rows {
             required "name" name,
             optional "url" url,
             optional "identifier" identifier,
+        }
+    };
+}
+
+// The same, in the order of the members' names.
+macro_rules! license_rows_by_name {
+    ($lines:ident!($($arguments:tt)*)) => {
+        $lines! {
+            $($arguments)*;
+            optional "identifier" identifier,
+            required "name" name,
+            optional "url" url,
         }
     };
 }
@@ -163,9 +200,7 @@ impl License {
     {
         LicenseBuilder::new(alloc)
     }
-}
-
-impl Tree for Contact {
+}impl Tree for Contact {
     ghost use Rattle.utoipa_leaf.specs.Info.{contact_doc, contact_of_kind};
 
     ghost kind = { named contact_object };
@@ -190,12 +225,17 @@ impl Tree for Contact {
         write_table(alloc, names, &values, &self.extensions)
     }
 
+    fn print(&self, alloc: Global, out: &mut Writer) -> Result<(), AllocError> {
+        let names = contact_rows_by_name!(row_names!());
+        let values = contact_rows_by_name!(row_values!(self));
+        print_table(alloc, out, names, &values, &self.extensions)
+    }
+
     fn try_clone(&self, alloc: Global) -> Result<Contact, AllocError> {
         contact_rows!(clone_table!(Contact, self, alloc))
     }
 }
-
-impl Tree for License {
+}impl Tree for License {
     ghost use Rattle.utoipa_leaf.specs.Info.{license_doc, license_of_kind};
 
     ghost kind = { named license_object };
@@ -220,9 +260,16 @@ impl Tree for License {
         write_table(alloc, names, &values, &self.extensions)
     }
 
+    fn print(&self, alloc: Global, out: &mut Writer) -> Result<(), AllocError> {
+        let names = license_rows_by_name!(row_names!());
+        let values = license_rows_by_name!(row_values!(self));
+        print_table(alloc, out, names, &values, &self.extensions)
+    }
+
     fn try_clone(&self, alloc: Global) -> Result<License, AllocError> {
         license_rows!(clone_table!(License, self, alloc))
     }
+}
 }
 
 impl Tree for Info {
@@ -244,6 +291,12 @@ impl Tree for Info {
         let names = info_rows!(row_names!());
         let values = info_rows!(row_values!(self));
         write_table(alloc, names, &values, &self.extensions)
+    }
+
+    fn print(&self, alloc: Global, out: &mut Writer) -> Result<(), AllocError> {
+        let names = info_rows_by_name!(row_names!());
+        let values = info_rows_by_name!(row_values!(self));
+        print_table(alloc, out, names, &values, &self.extensions)
     }
 
     fn try_clone(&self, alloc: Global) -> Result<Info, AllocError> {

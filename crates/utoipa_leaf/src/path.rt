@@ -2,9 +2,10 @@
 ghost use Rattle.std.specs.Prelude.{refl, false};
 ghost use Rattle.utoipa_base.specs.Kinds.{word_of, http_method, parameter_in, parameter_style};
 
+use json::Writer;
 use serde_json::Value;
 use std::alloc::{AllocError, Global};
-use utoipa_base::{ReadFault, Readings, Tree, Word, read_word, write_word};
+use utoipa_base::{ReadFault, Readings, Tree, Word, read_word, write_word, print_word};
 
 /// The HTTP method of an operation: the field of a Path Item Object (OpenAPI 3.1, section 4.8.9) under which it stands.
 ///
@@ -70,8 +71,7 @@ impl Word for HttpMethod {
     }
 }
 
-#[tactic(auto, using(utoipa_base::proofs::ByWords::by_words))]
-impl Tree for HttpMethod {
+#[tactic(auto, using(utoipa_base::proofs::ByWords::impl Tree for HttpMethod {
     ghost use Rattle.utoipa_leaf.specs.Path.{http_method_doc, http_method_of_kind};
 
     ghost kind = { word_of http_method };
@@ -92,8 +92,15 @@ impl Tree for HttpMethod {
         write_word(alloc, self)
     }
 
+    fn print(&self, _alloc: Global, out: &mut Writer) -> Result<(), AllocError> {
+        print_word(out, self)
+    }
+
     fn try_clone(&self, _alloc: Global) -> Result<HttpMethod, AllocError> {
         Ok(*self)
+    }
+}
+lf)
     }
 }
 
@@ -148,8 +155,7 @@ impl Word for ParameterIn {
     }
 }
 
-#[tactic(auto, using(utoipa_base::proofs::ByWords::by_words))]
-impl Tree for ParameterIn {
+#[tactic(auto, using(utoipa_base::proofs::ByWords::impl Tree for ParameterIn {
     ghost use Rattle.utoipa_leaf.specs.Path.{parameter_in_doc, parameter_in_of_kind};
 
     ghost kind = { word_of parameter_in };
@@ -170,8 +176,15 @@ impl Tree for ParameterIn {
         write_word(alloc, self)
     }
 
+    fn print(&self, _alloc: Global, out: &mut Writer) -> Result<(), AllocError> {
+        print_word(out, self)
+    }
+
     fn try_clone(&self, _alloc: Global) -> Result<ParameterIn, AllocError> {
         Ok(*self)
+    }
+}
+lf)
     }
 }
 
@@ -257,6 +270,10 @@ impl Tree for ParameterStyle {
 
     fn to_value(&self, alloc: Global) -> Result<Value, AllocError> {
         write_word(alloc, self)
+    }
+
+    fn print(&self, _alloc: Global, out: &mut Writer) -> Result<(), AllocError> {
+        print_word(out, self)
     }
 
     fn try_clone(&self, _alloc: Global) -> Result<ParameterStyle, AllocError> {

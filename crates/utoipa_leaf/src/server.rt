@@ -4,13 +4,11 @@ ghost use Rattle.std.specs.Option.{ForSome};
 ghost use Rattle.utoipa_base.specs.Kinds.{named, server_object, server_variable_object};
 ghost use Rattle.utoipa_base.specs.WellFormed.{has_fraction};
 
+use json::Writer;
 use serde_json::Value;
 use std::alloc::{AllocError, Global};
 use std::collections::BTreeMap;
-use utoipa_base::{
-    Extensions, ReadFault, Readings, Same, Tree, clone_table, from_fields, list_if_any, read_table,
-    row_names, row_values, same_table, table_has_fraction, write_table,
-};
+use utoipa_base::{Extensions, ReadFault, Readings, Same, Tree, clone_table, from_fields, list_if_any, read_table, row_names, row_values, same_table, table_has_fraction, write_table, print_table};
 
 // The rows of a server, in the order of its member table: mark, member, field.
 macro_rules! server_rows {
@@ -20,6 +18,19 @@ macro_rules! server_rows {
             required "url" url,
             optional "description" description,
             optional "name" name,
+            optional "variables" variables,
+        }
+    };
+}
+
+// The same, in the order of the members' names.
+macro_rules! server_rows_by_name {
+    ($lines:ident!($($arguments:tt)*)) => {
+        $lines! {
+            $($arguments)*;
+            optional "description" description,
+            optional "name" name,
+            required "url" url,
             optional "variables" variables,
         }
     };
@@ -42,6 +53,18 @@ pub struct Server {
 
 // The rows of a server variable, in the order of its member table: mark, member, field.
 macro_rules! server_variable_rows {
+    ($lines:ident!($($arguments:tt)*)) => {
+        $lines! {
+            $($arguments)*;
+            required "default" default_value,
+            optional "description" description,
+            optional "enum" enum_values,
+        }
+    };
+}
+
+// The same, in the order of the members' names.
+macro_rules! server_variable_rows_by_name {
     ($lines:ident!($($arguments:tt)*)) => {
         $lines! {
             $($arguments)*;
@@ -134,9 +157,7 @@ impl ServerVariable {
     {
         server_variable_rows!(same_table!(self, other))
     }
-}
-
-impl Tree for ServerVariable {
+}impl Tree for ServerVariable {
     ghost use Rattle.utoipa_leaf.specs.Server.{server_variable_doc, server_variable_of_kind};
 
     ghost kind = { named server_variable_object };
@@ -161,9 +182,16 @@ impl Tree for ServerVariable {
         write_table(alloc, names, &values, &self.extensions)
     }
 
+    fn print(&self, alloc: Global, out: &mut Writer) -> Result<(), AllocError> {
+        let names = server_variable_rows_by_name!(row_names!());
+        let values = server_variable_rows_by_name!(row_values!(self));
+        print_table(alloc, out, names, &values, &self.extensions)
+    }
+
     fn try_clone(&self, alloc: Global) -> Result<ServerVariable, AllocError> {
         server_variable_rows!(clone_table!(ServerVariable, self, alloc))
     }
+}
 }
 
 impl Tree for Server {
@@ -189,6 +217,12 @@ impl Tree for Server {
         let names = server_rows!(row_names!());
         let values = server_rows!(row_values!(self));
         write_table(alloc, names, &values, &self.extensions)
+    }
+
+    fn print(&self, alloc: Global, out: &mut Writer) -> Result<(), AllocError> {
+        let names = server_rows_by_name!(row_names!());
+        let values = server_rows_by_name!(row_values!(self));
+        print_table(alloc, out, names, &values, &self.extensions)
     }
 
     fn try_clone(&self, alloc: Global) -> Result<Server, AllocError> {

@@ -4,12 +4,10 @@ ghost use Rattle.utoipa_base.specs.Kinds.{named, tag_object};
 ghost use Rattle.utoipa_base.specs.WellFormed.{has_fraction};
 
 use crate::external_docs::ExternalDocs;
+use json::Writer;
 use serde_json::Value;
 use std::alloc::{AllocError, Global};
-use utoipa_base::{
-    Extensions, ReadFault, Readings, Same, Tree, clone_table, from_fields, read_table, row_names,
-    row_values, same_table, table_has_fraction, write_table,
-};
+use utoipa_base::{Extensions, ReadFault, Readings, Same, Tree, clone_table, from_fields, read_table, row_names, row_values, same_table, table_has_fraction, write_table, print_table};
 
 // The rows of a tag, in the order of its member table: mark, member, field.
 macro_rules! tag_rows {
@@ -22,6 +20,21 @@ macro_rules! tag_rows {
             optional "parent" parent,
             optional "kind" kind,
             optional "externalDocs" external_docs,
+        }
+    };
+}
+
+// The same, in the order of the members' names.
+macro_rules! tag_rows_by_name {
+    ($lines:ident!($($arguments:tt)*)) => {
+        $lines! {
+            $($arguments)*;
+            optional "description" description,
+            optional "externalDocs" external_docs,
+            optional "kind" kind,
+            required "name" name,
+            optional "parent" parent,
+            optional "summary" summary,
         }
     };
 }
@@ -117,6 +130,12 @@ impl Tree for Tag {
         let names = tag_rows!(row_names!());
         let values = tag_rows!(row_values!(self));
         write_table(alloc, names, &values, &self.extensions)
+    }
+
+    fn print(&self, alloc: Global, out: &mut Writer) -> Result<(), AllocError> {
+        let names = tag_rows_by_name!(row_names!());
+        let values = tag_rows_by_name!(row_values!(self));
+        print_table(alloc, out, names, &values, &self.extensions)
     }
 
     fn try_clone(&self, alloc: Global) -> Result<Tag, AllocError> {

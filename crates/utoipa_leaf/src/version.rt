@@ -9,6 +9,7 @@ ghost use Rattle.utoipa_base.specs.Reading.{read};
 ghost use Rattle.utoipa_base.specs.Version.{read_version, piece_number, and_number};
 ghost use Rattle.utoipa_leaf.specs.Version.{version_text, version_doc, version_of_kind, version_after};
 
+use json::Writer;
 use serde_json::Value;
 use std::alloc::{AllocError, Global};
 use utoipa_base::{ReadFault, Readings, Tree};
@@ -123,7 +124,7 @@ fn read_named(tree: &Value, name: &'static str) -> Result<OpenApiVersion, ReadFa
     }
 }
 
-#[tactic(auto, using(crate::proofs::Versions::by_version))]
+#[tactic(auto, using(crate::proofs::Versions::by_version, utoipa_base::proofs::Tokens::by_tokens))]
 impl Tree for OpenApiVersion {
     ghost kind = { version };
 
@@ -141,6 +142,10 @@ impl Tree for OpenApiVersion {
 
     fn to_value(&self, alloc: Global) -> Result<Value, AllocError> {
         Value::try_from_str(alloc, self.as_text())
+    }
+
+    fn print(&self, _alloc: Global, out: &mut Writer) -> Result<(), AllocError> {
+        out.string(self.as_text())
     }
 
     fn try_clone(&self, _alloc: Global) -> Result<OpenApiVersion, AllocError> {

@@ -3,12 +3,13 @@ ghost use Rattle.std.specs.Prelude.{◌≡◌, [], None, refl, false, IfOk};
 ghost use Rattle.std.specs.Iterator.{IsFinite, Drains};
 ghost use Rattle.utoipa_base.specs.Kinds.{named, discriminator_object};
 
+use json::Writer;
 use serde_json::Value;
 use std::alloc::{AllocError, Global};
 use std::collections::BTreeMap;
 use utoipa_base::{
-    Extensions, ReadFault, Readings, Tree, clone_table, from_fields, read_table, row_names,
-    row_values, write_table,
+    Extensions, ReadFault, Readings, Tree, clone_table, from_fields, print_table, read_table,
+    row_names, row_values, write_table,
 };
 
 // The rows of a discriminator, in the order of its member table: mark, member, field.
@@ -18,6 +19,17 @@ macro_rules! discriminator_rows {
             $($arguments)*;
             required "propertyName" property_name,
             defaulted "mapping" mapping,
+        }
+    };
+}
+
+// The same, in the order of the members' names.
+macro_rules! discriminator_rows_by_name {
+    ($lines:ident!($($arguments:tt)*)) => {
+        $lines! {
+            $($arguments)*;
+            defaulted "mapping" mapping,
+            required "propertyName" property_name,
         }
     };
 }
@@ -95,6 +107,12 @@ impl Tree for Discriminator {
         let names = discriminator_rows!(row_names!());
         let values = discriminator_rows!(row_values!(self));
         write_table(alloc, names, &values, &self.extensions)
+    }
+
+    fn print(&self, alloc: Global, out: &mut Writer) -> Result<(), AllocError> {
+        let names = discriminator_rows_by_name!(row_names!());
+        let values = discriminator_rows_by_name!(row_values!(self));
+        print_table(alloc, out, names, &values, &self.extensions)
     }
 
     fn try_clone(&self, alloc: Global) -> Result<Discriminator, AllocError> {

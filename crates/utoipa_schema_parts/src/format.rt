@@ -7,9 +7,10 @@ ghost use Rattle.utoipa_base.specs.Kinds.{word_of, known_format, schema_format};
 ghost use Rattle.utoipa_base.specs.Reading.{read};
 ghost use Rattle.utoipa_schema_parts.specs.Format.{schema_format_doc, schema_format_of_kind};
 
+use json::Writer;
 use serde_json::Value;
 use std::alloc::{AllocError, Global};
-use utoipa_base::{ReadFault, Readings, Tree, Word, read_word, write_word};
+use utoipa_base::{ReadFault, Readings, Tree, Word, print_word, read_word, write_word};
 
 /// A format that the model knows: a word of the keyword `format` (OpenAPI 3.1, section 4.4; JSON Schema 2020-12,
 /// Validation, section 7.3; `byte` and `binary` of OpenAPI 3.0).
@@ -148,6 +149,10 @@ impl Tree for KnownFormat {
         write_word(alloc, self)
     }
 
+    fn print(&self, _alloc: Global, out: &mut Writer) -> Result<(), AllocError> {
+        print_word(out, self)
+    }
+
     fn try_clone(&self, _alloc: Global) -> Result<KnownFormat, AllocError> {
         Ok(*self)
     }
@@ -201,6 +206,13 @@ impl Tree for SchemaFormat {
         match self {
             SchemaFormat::KnownFormat(known) => known.to_value(alloc),
             SchemaFormat::Custom(name) => Value::try_from_str(alloc, name.as_str()),
+        }
+    }
+
+    fn print(&self, alloc: Global, out: &mut Writer) -> Result<(), AllocError> {
+        match self {
+            SchemaFormat::KnownFormat(known) => known.print(alloc, out),
+            SchemaFormat::Custom(name) => out.string(name.as_str()),
         }
     }
 

@@ -10,9 +10,12 @@ ghost use Rattle.utoipa_base.specs.Reading.{read};
 ghost use Rattle.utoipa_base.specs.Values.{values, schema_count};
 ghost use Rattle.utoipa_schema_parts.specs.Types.{TypeWords, schema_type_doc, schema_type_of_kind};
 
+use json::Writer;
 use serde_json::Value;
 use std::alloc::{AllocError, Global};
-use utoipa_base::{Empty, ReadFault, Readings, Tree, Word, list_from, read_word, write_word};
+use utoipa_base::{
+    Empty, ReadFault, Readings, Tree, Word, list_from, print_word, read_word, write_word,
+};
 
 /// A type of JSON values: a word of the keyword `type` (JSON Schema 2020-12, Validation, section 6.1.1).
 #[derive(Clone, Copy, Debug, Default, Drop, PartialEq, Eq)]
@@ -93,6 +96,10 @@ impl Tree for TypeWord {
 
     fn to_value(&self, alloc: Global) -> Result<Value, AllocError> {
         write_word(alloc, self)
+    }
+
+    fn print(&self, _alloc: Global, out: &mut Writer) -> Result<(), AllocError> {
+        print_word(out, self)
     }
 
     fn try_clone(&self, _alloc: Global) -> Result<TypeWord, AllocError> {
@@ -221,6 +228,14 @@ impl Tree for SchemaType {
             SchemaType::Single(word) => word.to_value(alloc),
             SchemaType::Array(words) => words.to_value(alloc),
             SchemaType::AnyValue => Ok(Value::Null),
+        }
+    }
+
+    fn print(&self, alloc: Global, out: &mut Writer) -> Result<(), AllocError> {
+        match self {
+            SchemaType::Single(word) => word.print(alloc, out),
+            SchemaType::Array(words) => words.print(alloc, out),
+            SchemaType::AnyValue => out.null(),
         }
     }
 

@@ -3,11 +3,12 @@ ghost use Rattle.utoipa_base.specs.Kinds.{named, xml_object};
 ghost use Rattle.utoipa_schema_parts.specs.Xml.{xml_doc};
 ghost use Rattle.utoipa_schema_parts.specs.contracts.xml.XmlPartialEq.TheImpl as derived;
 
+use json::Writer;
 use serde_json::Value;
 use std::alloc::{AllocError, Global};
 use utoipa_base::{
-    ReadFault, Readings, Tree, clone_table_alone, from_fields_alone, read_table_alone, row_names,
-    row_values, write_table_alone,
+    ReadFault, Readings, Tree, clone_table_alone, from_fields_alone, print_table, read_table_alone,
+    row_names, row_values, write_table_alone,
 };
 
 // The rows of an XML object, in the order of its member table: mark, member, field.
@@ -20,6 +21,21 @@ macro_rules! xml_rows {
             optional "prefix" prefix,
             optional "nodeType" node_type,
             optional "attribute" attribute,
+            optional "wrapped" wrapped,
+        }
+    };
+}
+
+// The same, in the order of the members' names.
+macro_rules! xml_rows_by_name {
+    ($lines:ident!($($arguments:tt)*)) => {
+        $lines! {
+            $($arguments)*;
+            optional "attribute" attribute,
+            optional "name" name,
+            optional "namespace" namespace,
+            optional "nodeType" node_type,
+            optional "prefix" prefix,
             optional "wrapped" wrapped,
         }
     };
@@ -86,6 +102,12 @@ impl Tree for Xml {
         let names = xml_rows!(row_names!());
         let values = xml_rows!(row_values!(self));
         write_table_alone(alloc, names, &values)
+    }
+
+    fn print(&self, alloc: Global, out: &mut Writer) -> Result<(), AllocError> {
+        let names = xml_rows_by_name!(row_names!());
+        let values = xml_rows_by_name!(row_values!(self));
+        print_table(alloc, out, names, &values, &None)
     }
 
     fn try_clone(&self, alloc: Global) -> Result<Xml, AllocError> {
