@@ -1,12 +1,12 @@
 -- The documents of examples.
-use Rattle.std.specs.Prelude.{None, option_map, refl, String}
+use Rattle.std.specs.Prelude.{None, option_map, String}
 use Rattle.std.specs.declared.alloc.Global.{Global}
 use Rattle.utoipa_base.specs.Kinds.{named, example_object, any}
 use Rattle.utoipa_base.specs.Docs.{Doc, table_doc, no_docs, doc}
 use Rattle.utoipa_base.specs.Extensions.{extensions_view}
 use Rattle.utoipa_base.specs.Views.{text_of, tree_of, option_of}
-use Rattle.utoipa_base.specs.Shape.{IsOf, RowsOf, value_of}
-use Rattle.utoipa_base.specs.OfKind.{text_of_kind, tree_of_kind, option_of_kind, extends_of_kind}
+use Rattle.utoipa_base.specs.Shape.{IsOf, value_of}
+use Rattle.utoipa_base.specs.OfKind.{text_of_kind, tree_of_kind, option_of_kind, extends_of_kind, no_rows, next_row, table_of_kind}
 use Rattle.utoipa_leaf.specs.declared.example.Example.{Example}
 use Rattle.utoipa_leaf.specs.declared.example.ExampleBuilder.{ExampleBuilder}
 
@@ -30,18 +30,10 @@ example_doc e =
 
 -- why an example is of its kind
 pub example_of_kind : (e : Example) → IsOf (example_doc e) (value_of (named example_object))
-unfolding IsOf RowsOf
-example_of_kind e = (
-  refl,
-  (
-    text_of_kind e.summary,
-    (
-      text_of_kind e.description,
-      (
-        option_of_kind tree_of any tree_of_kind e.value,
-        (text_of_kind e.external_value, tt),
-      ),
-    ),
-  ),
-  extends_of_kind (option_map extensions_view e.extensions),
-)
+example_of_kind e =
+    table_of_kind _ _
+    (next_row (text_of_kind e.summary)
+    (next_row (text_of_kind e.description)
+    (next_row (option_of_kind tree_of any tree_of_kind e.value)
+    (next_row (text_of_kind e.external_value) no_rows))))
+    (extends_of_kind (option_map extensions_view e.extensions))

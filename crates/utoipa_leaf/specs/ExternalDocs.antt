@@ -1,5 +1,5 @@
 -- The documents of external documentation.
-use Rattle.std.specs.Prelude.{None, option_map, refl, String}
+use Rattle.std.specs.Prelude.{None, option_map, String}
 use Rattle.std.specs.declared.alloc.Global.{Global}
 use Rattle.utoipa_base.specs.Kinds.{named, external_docs_object, text}
 use Rattle.utoipa_base.specs.Docs.{Doc, table_doc, no_docs, doc}
@@ -7,8 +7,8 @@ use Rattle.utoipa_base.specs.Extensions.{extensions_view}
 use Rattle.utoipa_base.specs.Views.{text_of, option_of}
 use Rattle.utoipa_leaf.specs.declared.external_docs.ExternalDocs.{ExternalDocs}
 use Rattle.utoipa_leaf.specs.declared.external_docs.ExternalDocsBuilder.{ExternalDocsBuilder}
-use Rattle.utoipa_base.specs.Shape.{IsOf, RowsOf, value_of}
-use Rattle.utoipa_base.specs.OfKind.{text_of_kind, option_of_kind, extends_of_kind}
+use Rattle.utoipa_base.specs.Shape.{IsOf, value_of}
+use Rattle.utoipa_base.specs.OfKind.{text_of_kind, option_of_kind, extends_of_kind, no_rows, next_row, table_of_kind}
 
 -- external documentation at a URL, with nothing else
 abbrev pub empty_external_docs : String Global → ExternalDocs
@@ -28,9 +28,8 @@ external_docs_doc e =
 
 -- each is a document of its table
 pub external_docs_of_kind : (e : ExternalDocs) → IsOf (external_docs_doc e) (value_of (named external_docs_object))
-unfolding IsOf RowsOf
-external_docs_of_kind e = (
-  refl,
-  (text_of_kind e.url, (option_of_kind text_of text text_of_kind e.description, tt)),
-  extends_of_kind (option_map extensions_view e.extensions),
-)
+external_docs_of_kind e =
+    table_of_kind _ _
+    (next_row (text_of_kind e.url)
+    (next_row (option_of_kind text_of text text_of_kind e.description) no_rows))
+    (extends_of_kind (option_map extensions_view e.extensions))

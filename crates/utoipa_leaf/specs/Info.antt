@@ -1,12 +1,12 @@
 -- The documents of an API's info, its contact and its license.
-use Rattle.std.specs.Prelude.{None, option_map, refl, String}
+use Rattle.std.specs.Prelude.{None, option_map, String}
 use Rattle.std.specs.declared.alloc.Global.{Global}
 use Rattle.utoipa_base.specs.Kinds.{named, info_object, contact_object, license_object, text}
 use Rattle.utoipa_base.specs.Docs.{Doc, table_doc, no_docs, doc}
 use Rattle.utoipa_base.specs.Extensions.{extensions_view}
 use Rattle.utoipa_base.specs.Views.{text_of, option_of}
-use Rattle.utoipa_base.specs.Shape.{IsOf, RowsOf, value_of}
-use Rattle.utoipa_base.specs.OfKind.{text_of_kind, option_of_kind, extends_of_kind}
+use Rattle.utoipa_base.specs.Shape.{IsOf, value_of}
+use Rattle.utoipa_base.specs.OfKind.{text_of_kind, option_of_kind, extends_of_kind, no_rows, next_row, table_of_kind}
 use Rattle.utoipa_leaf.specs.declared.info.Info.{Info}
 use Rattle.utoipa_leaf.specs.declared.info.InfoBuilder.{InfoBuilder}
 use Rattle.utoipa_leaf.specs.declared.info.Contact.{Contact}
@@ -70,54 +70,30 @@ info_doc i =
 
 -- why a contact is of its kind
 pub contact_of_kind : (c : Contact) → IsOf (contact_doc c) (value_of (named contact_object))
-unfolding IsOf RowsOf
-contact_of_kind c = (
-  refl,
-  (
-    option_of_kind text_of text text_of_kind c.name,
-    (
-      option_of_kind text_of text text_of_kind c.url,
-      (option_of_kind text_of text text_of_kind c.email, tt),
-    ),
-  ),
-  extends_of_kind (option_map extensions_view c.extensions),
-)
+contact_of_kind c =
+    table_of_kind _ _
+    (next_row (option_of_kind text_of text text_of_kind c.name)
+    (next_row (option_of_kind text_of text text_of_kind c.url)
+    (next_row (option_of_kind text_of text text_of_kind c.email) no_rows)))
+    (extends_of_kind (option_map extensions_view c.extensions))
 
 -- why a license is of its kind
 pub license_of_kind : (l : License) → IsOf (license_doc l) (value_of (named license_object))
-unfolding IsOf RowsOf
-license_of_kind l = (
-  refl,
-  (
-    text_of_kind l.name,
-    (
-      option_of_kind text_of text text_of_kind l.url,
-      (option_of_kind text_of text text_of_kind l.identifier, tt),
-    ),
-  ),
-  extends_of_kind (option_map extensions_view l.extensions),
-)
+license_of_kind l =
+    table_of_kind _ _
+    (next_row (text_of_kind l.name)
+    (next_row (option_of_kind text_of text text_of_kind l.url)
+    (next_row (option_of_kind text_of text text_of_kind l.identifier) no_rows)))
+    (extends_of_kind (option_map extensions_view l.extensions))
 
 -- why an info object is of its kind
 pub info_of_kind : (i : Info) → IsOf (info_doc i) (value_of (named info_object))
-unfolding IsOf RowsOf
-info_of_kind i = (
-  refl,
-  (
-    text_of_kind i.title,
-    (
-      option_of_kind text_of text text_of_kind i.description,
-      (
-        option_of_kind text_of text text_of_kind i.terms_of_service,
-        (
-          option_of_kind contact_doc (named contact_object) contact_of_kind i.contact,
-          (
-            option_of_kind license_doc (named license_object) license_of_kind i.license,
-            (text_of_kind i.version, tt),
-          ),
-        ),
-      ),
-    ),
-  ),
-  extends_of_kind (option_map extensions_view i.extensions),
-)
+info_of_kind i =
+    table_of_kind _ _
+    (next_row (text_of_kind i.title)
+    (next_row (option_of_kind text_of text text_of_kind i.description)
+    (next_row (option_of_kind text_of text text_of_kind i.terms_of_service)
+    (next_row (option_of_kind contact_doc (named contact_object) contact_of_kind i.contact)
+    (next_row (option_of_kind license_doc (named license_object) license_of_kind i.license)
+    (next_row (text_of_kind i.version) no_rows))))))
+    (extends_of_kind (option_map extensions_view i.extensions))

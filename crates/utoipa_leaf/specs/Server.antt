@@ -1,5 +1,5 @@
 -- The documents of servers and their variables.
-use Rattle.std.specs.Prelude.{None, option_map, refl, String, Vec}
+use Rattle.std.specs.Prelude.{None, option_map, String, Vec}
 use Rattle.std.specs.BTreeMap.{BTreeMap}
 use Rattle.std.specs.declared.alloc.Global.{Global}
 use Rattle.utoipa_base.specs.Kinds.{named, server_object, server_variable_object, text, list_of, map_of}
@@ -10,8 +10,8 @@ use Rattle.utoipa_leaf.specs.declared.server.Server.{Server}
 use Rattle.utoipa_leaf.specs.declared.server.ServerBuilder.{ServerBuilder}
 use Rattle.utoipa_leaf.specs.declared.server.ServerVariable.{ServerVariable}
 use Rattle.utoipa_leaf.specs.declared.server.ServerVariableBuilder.{ServerVariableBuilder}
-use Rattle.utoipa_base.specs.Shape.{IsOf, RowsOf, value_of}
-use Rattle.utoipa_base.specs.OfKind.{text_of_kind, option_of_kind, list_of_kind, map_of_kind, extends_of_kind}
+use Rattle.utoipa_base.specs.Shape.{IsOf, value_of}
+use Rattle.utoipa_base.specs.OfKind.{text_of_kind, option_of_kind, list_of_kind, map_of_kind, extends_of_kind, no_rows, next_row, table_of_kind}
 
 -- a server at a URL, with nothing else
 abbrev pub empty_server : String Global → Server
@@ -55,32 +55,18 @@ server_doc s =
     (option_map extensions_view s.extensions)
 
 pub server_variable_of_kind : (v : ServerVariable) → IsOf (server_variable_doc v) (value_of (named server_variable_object))
-unfolding IsOf RowsOf
-server_variable_of_kind v = (
-  refl,
-  (
-    text_of_kind v.default_value,
-    (
-      option_of_kind text_of text text_of_kind v.description,
-      (option_of_kind (list_of_docs text_of) (list_of text) (list_of_kind text_of text text_of_kind) v.enum_values, tt),
-    ),
-  ),
-  extends_of_kind (option_map extensions_view v.extensions),
-)
+server_variable_of_kind v =
+    table_of_kind _ _
+    (next_row (text_of_kind v.default_value)
+    (next_row (option_of_kind text_of text text_of_kind v.description)
+    (next_row (option_of_kind (list_of_docs text_of) (list_of text) (list_of_kind text_of text text_of_kind) v.enum_values) no_rows)))
+    (extends_of_kind (option_map extensions_view v.extensions))
 
 pub server_of_kind : (s : Server) → IsOf (server_doc s) (value_of (named server_object))
-unfolding IsOf RowsOf
-server_of_kind s = (
-  refl,
-  (
-    text_of_kind s.url,
-    (
-      option_of_kind text_of text text_of_kind s.description,
-      (
-        option_of_kind text_of text text_of_kind s.name,
-        (option_of_kind (map_of_docs server_variable_doc) (map_of (named server_variable_object)) (map_of_kind server_variable_doc (named server_variable_object) server_variable_of_kind) s.variables, tt),
-      ),
-    ),
-  ),
-  extends_of_kind (option_map extensions_view s.extensions),
-)
+server_of_kind s =
+    table_of_kind _ _
+    (next_row (text_of_kind s.url)
+    (next_row (option_of_kind text_of text text_of_kind s.description)
+    (next_row (option_of_kind text_of text text_of_kind s.name)
+    (next_row (option_of_kind (map_of_docs server_variable_doc) (map_of (named server_variable_object)) (map_of_kind server_variable_doc (named server_variable_object) server_variable_of_kind) s.variables) no_rows))))
+    (extends_of_kind (option_map extensions_view s.extensions))

@@ -1,5 +1,5 @@
 -- The documents of tags.
-use Rattle.std.specs.Prelude.{None, option_map, refl, String}
+use Rattle.std.specs.Prelude.{None, option_map, String}
 use Rattle.std.specs.declared.alloc.Global.{Global}
 use Rattle.utoipa_base.specs.Kinds.{named, tag_object, external_docs_object, text}
 use Rattle.utoipa_base.specs.Docs.{Doc, table_doc, no_docs, doc}
@@ -8,8 +8,8 @@ use Rattle.utoipa_base.specs.Views.{text_of, option_of}
 use Rattle.utoipa_leaf.specs.declared.tag.Tag.{Tag}
 use Rattle.utoipa_leaf.specs.declared.tag.TagBuilder.{TagBuilder}
 use Rattle.utoipa_leaf.specs.ExternalDocs.{external_docs_doc, external_docs_of_kind}
-use Rattle.utoipa_base.specs.Shape.{IsOf, RowsOf, value_of}
-use Rattle.utoipa_base.specs.OfKind.{text_of_kind, option_of_kind, extends_of_kind}
+use Rattle.utoipa_base.specs.Shape.{IsOf, value_of}
+use Rattle.utoipa_base.specs.OfKind.{text_of_kind, option_of_kind, extends_of_kind, no_rows, next_row, table_of_kind}
 
 -- a tag of a name, with nothing else
 abbrev pub empty_tag : String Global → Tag
@@ -33,24 +33,12 @@ tag_doc t =
 
 -- each is a document of its table
 pub tag_of_kind : (t : Tag) → IsOf (tag_doc t) (value_of (named tag_object))
-unfolding IsOf RowsOf
-tag_of_kind t = (
-  refl,
-  (
-    text_of_kind t.name,
-    (
-      option_of_kind text_of text text_of_kind t.summary,
-      (
-        option_of_kind text_of text text_of_kind t.description,
-        (
-          option_of_kind text_of text text_of_kind t.parent,
-          (
-            option_of_kind text_of text text_of_kind t.kind,
-            (option_of_kind external_docs_doc (named external_docs_object) external_docs_of_kind t.external_docs, tt),
-          ),
-        ),
-      ),
-    ),
-  ),
-  extends_of_kind (option_map extensions_view t.extensions),
-)
+tag_of_kind t =
+    table_of_kind _ _
+    (next_row (text_of_kind t.name)
+    (next_row (option_of_kind text_of text text_of_kind t.summary)
+    (next_row (option_of_kind text_of text text_of_kind t.description)
+    (next_row (option_of_kind text_of text text_of_kind t.parent)
+    (next_row (option_of_kind text_of text text_of_kind t.kind)
+    (next_row (option_of_kind external_docs_doc (named external_docs_object) external_docs_of_kind t.external_docs) no_rows))))))
+    (extends_of_kind (option_map extensions_view t.extensions))

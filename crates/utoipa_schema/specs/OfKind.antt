@@ -6,9 +6,9 @@ use Rattle.utoipa_base.specs.Extensions.{extensions_view}
 use Rattle.utoipa_base.specs.Flags.{deprecated_doc}
 use Rattle.utoipa_base.specs.Kinds.{Kind, text, flag, whole, numeral, any, list_of, named, ref_or, schema, schema_format, array_items, additional_properties, discriminator_object, xml_object, one_of_schema, all_of_schema, any_of_schema, array_schema, object_schema}
 use Rattle.utoipa_base.specs.Numbers.{number_doc}
-use Rattle.utoipa_base.specs.OfKind.{text_of_kind, flag_of_kind, whole_of_kind, deprecated_of_kind, number_of_kind, tree_of_kind, option_of_kind, list_of_kind, map_of_kind, reference_of_kind, ref_or_of_kind, extends_of_kind}
+use Rattle.utoipa_base.specs.OfKind.{text_of_kind, flag_of_kind, whole_of_kind, deprecated_of_kind, number_of_kind, tree_of_kind, option_of_kind, list_of_kind, map_of_kind, reference_of_kind, ref_or_of_kind, extends_of_kind, no_rows, next_row, table_of_kind}
 use Rattle.utoipa_base.specs.Refs.{ref_or_doc}
-use Rattle.utoipa_base.specs.Shape.{IsOf, RowsOf, value_of}
+use Rattle.utoipa_base.specs.Shape.{IsOf, value_of}
 use Rattle.utoipa_base.specs.Views.{text_of, tree_of, list_of_docs}
 use Rattle.utoipa_base.specs.declared.refs.RefOr.{RefOr}
 use Rattle.utoipa_base.specs.declared.refs.RefOr.TheVariants as made
@@ -57,254 +57,99 @@ items_layer_of_kind f each (ArrayItems-F.RefOrSchema b) = item_of_kind f each b.
 items_layer_of_kind f each ArrayItems-F.False = refl
 
 one_of_layer_of_kind : {A S B C D E F : Type 0} (f : S → Doc) → ((s : S) → IsOf (f s) (value_of schema)) → (x : OneOf-F A S B C D E F) → IsOf (one_of_layer f x) (value_of (named one_of_schema))
-unfolding IsOf RowsOf
-one_of_layer_of_kind f each x = (
-  refl,
-  (
-    places_of_kind f each x.items,
-    (
-      schema_type_of_kind x.schema_type,
-      (
-        option_of_kind text_of text text_of_kind x.title,
-        (
-          option_of_kind text_of text text_of_kind x.description,
-          (
-            option_of_kind tree_of any tree_of_kind x.default,
-            (
-              option_of_kind tree_of any tree_of_kind x.example,
-              (
-                list_of_kind tree_of any tree_of_kind x.examples,
-                (
-                  option_of_kind discriminator_doc (named discriminator_object) discriminator_of_kind x.discriminator,
-                  (
-                    option_of_kind flag_doc flag flag_of_kind x.read_only,
-                    (
-                      option_of_kind flag_doc flag flag_of_kind x.write_only,
-                      tt,
-                    ),
-                  ),
-                ),
-              ),
-            ),
-          ),
-        ),
-      ),
-    ),
-  ),
-  extends_of_kind (option_map extensions_view x.extensions),
-)
+one_of_layer_of_kind f each x =
+    table_of_kind _ _
+    (next_row (places_of_kind f each x.items)
+    (next_row (schema_type_of_kind x.schema_type)
+    (next_row (option_of_kind text_of text text_of_kind x.title)
+    (next_row (option_of_kind text_of text text_of_kind x.description)
+    (next_row (option_of_kind tree_of any tree_of_kind x.default)
+    (next_row (option_of_kind tree_of any tree_of_kind x.example)
+    (next_row (list_of_kind tree_of any tree_of_kind x.examples)
+    (next_row (option_of_kind discriminator_doc (named discriminator_object) discriminator_of_kind x.discriminator)
+    (next_row (option_of_kind flag_doc flag flag_of_kind x.read_only)
+    (next_row (option_of_kind flag_doc flag flag_of_kind x.write_only) no_rows))))))))))
+    (extends_of_kind (option_map extensions_view x.extensions))
 
 all_of_layer_of_kind : {A S B C D E F : Type 0} (f : S → Doc) → ((s : S) → IsOf (f s) (value_of schema)) → (x : AllOf-F A S B C D E F) → IsOf (all_of_layer f x) (value_of (named all_of_schema))
-unfolding IsOf RowsOf
-all_of_layer_of_kind f each x = (
-  refl,
-  (
-    places_of_kind f each x.items,
-    (
-      schema_type_of_kind x.schema_type,
-      (
-        option_of_kind text_of text text_of_kind x.title,
-        (
-          option_of_kind text_of text text_of_kind x.description,
-          (
-            option_of_kind tree_of any tree_of_kind x.default,
-            (
-              option_of_kind tree_of any tree_of_kind x.example,
-              (
-                list_of_kind tree_of any tree_of_kind x.examples,
-                (
-                  option_of_kind discriminator_doc (named discriminator_object) discriminator_of_kind x.discriminator,
-                  tt,
-                ),
-              ),
-            ),
-          ),
-        ),
-      ),
-    ),
-  ),
-  extends_of_kind (option_map extensions_view x.extensions),
-)
+all_of_layer_of_kind f each x =
+    table_of_kind _ _
+    (next_row (places_of_kind f each x.items)
+    (next_row (schema_type_of_kind x.schema_type)
+    (next_row (option_of_kind text_of text text_of_kind x.title)
+    (next_row (option_of_kind text_of text text_of_kind x.description)
+    (next_row (option_of_kind tree_of any tree_of_kind x.default)
+    (next_row (option_of_kind tree_of any tree_of_kind x.example)
+    (next_row (list_of_kind tree_of any tree_of_kind x.examples)
+    (next_row (option_of_kind discriminator_doc (named discriminator_object) discriminator_of_kind x.discriminator) no_rows))))))))
+    (extends_of_kind (option_map extensions_view x.extensions))
 
 any_of_layer_of_kind : {A S B C D E F : Type 0} (f : S → Doc) → ((s : S) → IsOf (f s) (value_of schema)) → (x : AnyOf-F A S B C D E F) → IsOf (any_of_layer f x) (value_of (named any_of_schema))
-unfolding IsOf RowsOf
-any_of_layer_of_kind f each x = (
-  refl,
-  (
-    places_of_kind f each x.items,
-    (
-      schema_type_of_kind x.schema_type,
-      (
-        option_of_kind text_of text text_of_kind x.description,
-        (
-          option_of_kind tree_of any tree_of_kind x.default,
-          (
-            option_of_kind tree_of any tree_of_kind x.example,
-            (
-              list_of_kind tree_of any tree_of_kind x.examples,
-              (
-                option_of_kind discriminator_doc (named discriminator_object) discriminator_of_kind x.discriminator,
-                tt,
-              ),
-            ),
-          ),
-        ),
-      ),
-    ),
-  ),
-  extends_of_kind (option_map extensions_view x.extensions),
-)
+any_of_layer_of_kind f each x =
+    table_of_kind _ _
+    (next_row (places_of_kind f each x.items)
+    (next_row (schema_type_of_kind x.schema_type)
+    (next_row (option_of_kind text_of text text_of_kind x.description)
+    (next_row (option_of_kind tree_of any tree_of_kind x.default)
+    (next_row (option_of_kind tree_of any tree_of_kind x.example)
+    (next_row (list_of_kind tree_of any tree_of_kind x.examples)
+    (next_row (option_of_kind discriminator_doc (named discriminator_object) discriminator_of_kind x.discriminator) no_rows)))))))
+    (extends_of_kind (option_map extensions_view x.extensions))
 
 array_layer_of_kind : {A S B C D E F : Type 0} (items : A → Doc) → ((a : A) → IsOf (items a) (value_of array_items)) → (f : S → Doc) → ((s : S) → IsOf (f s) (value_of schema)) → (x : Array-F A S B C D E F) → IsOf (array_layer items f x) (value_of (named array_schema))
-unfolding IsOf RowsOf
-array_layer_of_kind items items_each f each x = (
-  refl,
-  (
-    schema_type_of_kind x.schema_type,
-    (
-      option_of_kind text_of text text_of_kind x.title,
-      (
-        items_each x.items,
-        (
-          list_of_kind f schema each x.prefix_items,
-          (
-            option_of_kind text_of text text_of_kind x.description,
-            (
-              option_of_kind deprecated_doc flag deprecated_of_kind x.deprecated,
-              (
-                option_of_kind tree_of any tree_of_kind x.example,
-                (
-                  list_of_kind tree_of any tree_of_kind x.examples,
-                  (
-                    option_of_kind tree_of any tree_of_kind x.default,
-                    (
-                      option_of_kind whole_doc whole whole_of_kind x.max_items,
-                      (
-                        option_of_kind whole_doc whole whole_of_kind x.min_items,
-                        (
-                          flag_of_kind x.unique_items,
-                          (
-                            option_of_kind xml_doc (named xml_object) xml_of_kind x.xml,
-                            (
-                              text_of_kind x.content_encoding,
-                              (
-                                text_of_kind x.content_media_type,
-                                (
-                                  option_of_kind (boxed (ref_or_doc schema f)) (ref_or schema) (boxed_of_kind (ref_or_doc schema f) (ref_or schema) (ref_or_of_kind f schema each)) x.content_schema,
-                                  tt,
-                                ),
-                              ),
-                            ),
-                          ),
-                        ),
-                      ),
-                    ),
-                  ),
-                ),
-              ),
-            ),
-          ),
-        ),
-      ),
-    ),
-  ),
-  extends_of_kind (option_map extensions_view x.extensions),
-)
+array_layer_of_kind items items_each f each x =
+    table_of_kind _ _
+    (next_row (schema_type_of_kind x.schema_type)
+    (next_row (option_of_kind text_of text text_of_kind x.title)
+    (next_row (items_each x.items)
+    (next_row (list_of_kind f schema each x.prefix_items)
+    (next_row (option_of_kind text_of text text_of_kind x.description)
+    (next_row (option_of_kind deprecated_doc flag deprecated_of_kind x.deprecated)
+    (next_row (option_of_kind tree_of any tree_of_kind x.example)
+    (next_row (list_of_kind tree_of any tree_of_kind x.examples)
+    (next_row (option_of_kind tree_of any tree_of_kind x.default)
+    (next_row (option_of_kind whole_doc whole whole_of_kind x.max_items)
+    (next_row (option_of_kind whole_doc whole whole_of_kind x.min_items)
+    (next_row (flag_of_kind x.unique_items)
+    (next_row (option_of_kind xml_doc (named xml_object) xml_of_kind x.xml)
+    (next_row (text_of_kind x.content_encoding)
+    (next_row (text_of_kind x.content_media_type)
+    (next_row (option_of_kind (boxed (ref_or_doc schema f)) (ref_or schema) (boxed_of_kind (ref_or_doc schema f) (ref_or schema) (ref_or_of_kind f schema each)) x.content_schema) no_rows))))))))))))))))
+    (extends_of_kind (option_map extensions_view x.extensions))
 
 object_layer_of_kind : {A S B C D E F : Type 0} (f : S → Doc) → ((s : S) → IsOf (f s) (value_of schema)) → (x : Object-F A S B C D E F) → IsOf (object_layer f x) (value_of (named object_schema))
-unfolding IsOf RowsOf
-object_layer_of_kind f each x = (
-  refl,
-  (
-    schema_type_of_kind x.schema_type,
-    (
-      option_of_kind text_of text text_of_kind x.title,
-      (
-        option_of_kind schema_format_doc schema_format schema_format_of_kind x.format,
-        (
-          option_of_kind text_of text text_of_kind x.description,
-          (
-            option_of_kind tree_of any tree_of_kind x.default,
-            (
-              option_of_kind (list_of_docs tree_of) (list_of any) (list_of_kind tree_of any tree_of_kind) x.enum_values,
-              (
-                list_of_kind text_of text text_of_kind x.required,
-                (
-                  map_of_kind (ref_or_doc schema f) (ref_or schema) (ref_or_of_kind f schema each) x.properties,
-                  (
-                    option_of_kind (boxed (additional_properties_doc f)) additional_properties (boxed_of_kind (additional_properties_doc f) additional_properties (additional_of_kind f each)) x.additional_properties,
-                    (
-                      option_of_kind (boxed f) schema (boxed_of_kind f schema each) x.property_names,
-                      (
-                        option_of_kind deprecated_doc flag deprecated_of_kind x.deprecated,
-                        (
-                          option_of_kind tree_of any tree_of_kind x.example,
-                          (
-                            list_of_kind tree_of any tree_of_kind x.examples,
-                            (
-                              option_of_kind flag_doc flag flag_of_kind x.write_only,
-                              (
-                                option_of_kind flag_doc flag flag_of_kind x.read_only,
-                                (
-                                  option_of_kind xml_doc (named xml_object) xml_of_kind x.xml,
-                                  (
-                                    option_of_kind number_doc numeral number_of_kind x.multiple_of,
-                                    (
-                                      option_of_kind number_doc numeral number_of_kind x.maximum,
-                                      (
-                                        option_of_kind number_doc numeral number_of_kind x.minimum,
-                                        (
-                                          option_of_kind number_doc numeral number_of_kind x.exclusive_maximum,
-                                          (
-                                            option_of_kind number_doc numeral number_of_kind x.exclusive_minimum,
-                                            (
-                                              option_of_kind whole_doc whole whole_of_kind x.max_length,
-                                              (
-                                                option_of_kind whole_doc whole whole_of_kind x.min_length,
-                                                (
-                                                  option_of_kind text_of text text_of_kind x.pattern,
-                                                  (
-                                                    option_of_kind whole_doc whole whole_of_kind x.max_properties,
-                                                    (
-                                                      option_of_kind whole_doc whole whole_of_kind x.min_properties,
-                                                      (
-                                                        text_of_kind x.content_encoding,
-                                                        (
-                                                          text_of_kind x.content_media_type,
-                                                          (
-                                                            option_of_kind (boxed (ref_or_doc schema f)) (ref_or schema) (boxed_of_kind (ref_or_doc schema f) (ref_or schema) (ref_or_of_kind f schema each)) x.content_schema,
-                                                            tt,
-                                                          ),
-                                                        ),
-                                                      ),
-                                                    ),
-                                                  ),
-                                                ),
-                                              ),
-                                            ),
-                                          ),
-                                        ),
-                                      ),
-                                    ),
-                                  ),
-                                ),
-                              ),
-                            ),
-                          ),
-                        ),
-                      ),
-                    ),
-                  ),
-                ),
-              ),
-            ),
-          ),
-        ),
-      ),
-    ),
-  ),
-  extends_of_kind (option_map extensions_view x.extensions),
-)
+object_layer_of_kind f each x =
+    table_of_kind _ _
+    (next_row (schema_type_of_kind x.schema_type)
+    (next_row (option_of_kind text_of text text_of_kind x.title)
+    (next_row (option_of_kind schema_format_doc schema_format schema_format_of_kind x.format)
+    (next_row (option_of_kind text_of text text_of_kind x.description)
+    (next_row (option_of_kind tree_of any tree_of_kind x.default)
+    (next_row (option_of_kind (list_of_docs tree_of) (list_of any) (list_of_kind tree_of any tree_of_kind) x.enum_values)
+    (next_row (list_of_kind text_of text text_of_kind x.required)
+    (next_row (map_of_kind (ref_or_doc schema f) (ref_or schema) (ref_or_of_kind f schema each) x.properties)
+    (next_row (option_of_kind (boxed (additional_properties_doc f)) additional_properties (boxed_of_kind (additional_properties_doc f) additional_properties (additional_of_kind f each)) x.additional_properties)
+    (next_row (option_of_kind (boxed f) schema (boxed_of_kind f schema each) x.property_names)
+    (next_row (option_of_kind deprecated_doc flag deprecated_of_kind x.deprecated)
+    (next_row (option_of_kind tree_of any tree_of_kind x.example)
+    (next_row (list_of_kind tree_of any tree_of_kind x.examples)
+    (next_row (option_of_kind flag_doc flag flag_of_kind x.write_only)
+    (next_row (option_of_kind flag_doc flag flag_of_kind x.read_only)
+    (next_row (option_of_kind xml_doc (named xml_object) xml_of_kind x.xml)
+    (next_row (option_of_kind number_doc numeral number_of_kind x.multiple_of)
+    (next_row (option_of_kind number_doc numeral number_of_kind x.maximum)
+    (next_row (option_of_kind number_doc numeral number_of_kind x.minimum)
+    (next_row (option_of_kind number_doc numeral number_of_kind x.exclusive_maximum)
+    (next_row (option_of_kind number_doc numeral number_of_kind x.exclusive_minimum)
+    (next_row (option_of_kind whole_doc whole whole_of_kind x.max_length)
+    (next_row (option_of_kind whole_doc whole whole_of_kind x.min_length)
+    (next_row (option_of_kind text_of text text_of_kind x.pattern)
+    (next_row (option_of_kind whole_doc whole whole_of_kind x.max_properties)
+    (next_row (option_of_kind whole_doc whole whole_of_kind x.min_properties)
+    (next_row (text_of_kind x.content_encoding)
+    (next_row (text_of_kind x.content_media_type)
+    (next_row (option_of_kind (boxed (ref_or_doc schema f)) (ref_or schema) (boxed_of_kind (ref_or_doc schema f) (ref_or schema) (ref_or_of_kind f schema each)) x.content_schema) no_rows)))))))))))))))))))))))))))))
+    (extends_of_kind (option_map extensions_view x.extensions))
 
 -- ---- by induction, from the innermost schema outwards
 

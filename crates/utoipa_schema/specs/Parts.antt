@@ -6,7 +6,7 @@ use Rattle.utoipa_base.specs.Docs.{flag_doc, whole_doc, Docs, no_docs, doc}
 use Rattle.utoipa_base.specs.Flags.{deprecated_doc}
 use Rattle.utoipa_base.specs.Kinds.{ObjectType, discriminator_object, xml_object, one_of_schema, array_schema, object_schema, text, flag, whole, numeral, any, list_of, named, schema_format, Row}
 use Rattle.utoipa_base.specs.Numbers.{number_doc}
-use Rattle.utoipa_base.specs.OfKind.{text_of_kind, flag_of_kind, whole_of_kind, tree_of_kind, deprecated_of_kind, number_of_kind, option_of_kind, list_of_kind}
+use Rattle.utoipa_base.specs.OfKind.{text_of_kind, flag_of_kind, whole_of_kind, tree_of_kind, deprecated_of_kind, number_of_kind, option_of_kind, list_of_kind, no_rows, next_row, rows_of_kind}
 use Rattle.utoipa_base.specs.Shape.{RowsOf}
 use Rattle.utoipa_base.specs.Tables.{table}
 use Rattle.utoipa_base.specs.Views.{text_of, tree_of, option_of, list_of_docs}
@@ -72,20 +72,13 @@ combination_docs c =
 
 -- each field is a document of its row
 pub combination_of_rows : (c : Combination) → RowsOf (combination_docs c) combination_rows
-unfolding RowsOf
-combination_of_rows c = (
-  option_of_kind text_of text text_of_kind c.description,
-  (
-    option_of_kind tree_of any tree_of_kind c.default,
-    (
-      option_of_kind tree_of any tree_of_kind c.example,
-      (
-        list_of_kind tree_of any tree_of_kind c.examples,
-        (option_of_kind discriminator_doc (named discriminator_object) discriminator_of_kind c.discriminator, tt),
-      ),
-    ),
-  ),
-)
+combination_of_rows c =
+    rows_of_kind
+    (next_row (option_of_kind text_of text text_of_kind c.description)
+    (next_row (option_of_kind tree_of any tree_of_kind c.default)
+    (next_row (option_of_kind tree_of any tree_of_kind c.example)
+    (next_row (list_of_kind tree_of any tree_of_kind c.examples)
+    (next_row (option_of_kind discriminator_doc (named discriminator_object) discriminator_of_kind c.discriminator) no_rows)))))
 
 -- a combination's members, one by one
 abbrev pub combination_of : Option (String Global) → Option Value → Option Value → Vec Value Global → Option Discriminator → Combination
@@ -128,26 +121,15 @@ object_head_docs h =
 
 -- each field is a document of its row
 pub object_head_of_rows : (h : ObjectHead) → RowsOf (object_head_docs h) object_head_rows
-unfolding RowsOf
-object_head_of_rows h = (
-  schema_type_of_kind h.schema_type,
-  (
-    option_of_kind text_of text text_of_kind h.title,
-    (
-      option_of_kind schema_format_doc schema_format schema_format_of_kind h.format,
-      (
-        option_of_kind text_of text text_of_kind h.description,
-        (
-          option_of_kind tree_of any tree_of_kind h.default,
-          (
-            option_of_kind (list_of_docs tree_of) (list_of any) (list_of_kind tree_of any tree_of_kind) h.enum_values,
-            (list_of_kind text_of text text_of_kind h.required, tt),
-          ),
-        ),
-      ),
-    ),
-  ),
-)
+object_head_of_rows h =
+    rows_of_kind
+    (next_row (schema_type_of_kind h.schema_type)
+    (next_row (option_of_kind text_of text text_of_kind h.title)
+    (next_row (option_of_kind schema_format_doc schema_format schema_format_of_kind h.format)
+    (next_row (option_of_kind text_of text text_of_kind h.description)
+    (next_row (option_of_kind tree_of any tree_of_kind h.default)
+    (next_row (option_of_kind (list_of_docs tree_of) (list_of any) (list_of_kind tree_of any tree_of_kind) h.enum_values)
+    (next_row (list_of_kind text_of text text_of_kind h.required) no_rows)))))))
 
 -- those of an object
 abbrev pub head_of_object : Object → ObjectHead
@@ -179,23 +161,14 @@ object_annotation_docs a =
 
 -- each field is a document of its row
 pub object_annotation_of_rows : (a : ObjectAnnotations) → RowsOf (object_annotation_docs a) object_annotation_rows
-unfolding RowsOf
-object_annotation_of_rows a = (
-  option_of_kind deprecated_doc flag deprecated_of_kind a.deprecated,
-  (
-    option_of_kind tree_of any tree_of_kind a.example,
-    (
-      list_of_kind tree_of any tree_of_kind a.examples,
-      (
-        option_of_kind flag_doc flag flag_of_kind a.write_only,
-        (
-          option_of_kind flag_doc flag flag_of_kind a.read_only,
-          (option_of_kind xml_doc (named xml_object) xml_of_kind a.xml, tt),
-        ),
-      ),
-    ),
-  ),
-)
+object_annotation_of_rows a =
+    rows_of_kind
+    (next_row (option_of_kind deprecated_doc flag deprecated_of_kind a.deprecated)
+    (next_row (option_of_kind tree_of any tree_of_kind a.example)
+    (next_row (list_of_kind tree_of any tree_of_kind a.examples)
+    (next_row (option_of_kind flag_doc flag flag_of_kind a.write_only)
+    (next_row (option_of_kind flag_doc flag flag_of_kind a.read_only)
+    (next_row (option_of_kind xml_doc (named xml_object) xml_of_kind a.xml) no_rows))))))
 
 -- those of an object
 abbrev pub annotations_of_object : Object → ObjectAnnotations
@@ -225,20 +198,13 @@ number_limit_docs l =
 
 -- each field is a document of its row
 pub number_limit_of_rows : (l : NumberLimits) → RowsOf (number_limit_docs l) number_limit_rows
-unfolding RowsOf
-number_limit_of_rows l = (
-  option_of_kind number_doc numeral number_of_kind l.multiple_of,
-  (
-    option_of_kind number_doc numeral number_of_kind l.maximum,
-    (
-      option_of_kind number_doc numeral number_of_kind l.minimum,
-      (
-        option_of_kind number_doc numeral number_of_kind l.exclusive_maximum,
-        (option_of_kind number_doc numeral number_of_kind l.exclusive_minimum, tt),
-      ),
-    ),
-  ),
-)
+number_limit_of_rows l =
+    rows_of_kind
+    (next_row (option_of_kind number_doc numeral number_of_kind l.multiple_of)
+    (next_row (option_of_kind number_doc numeral number_of_kind l.maximum)
+    (next_row (option_of_kind number_doc numeral number_of_kind l.minimum)
+    (next_row (option_of_kind number_doc numeral number_of_kind l.exclusive_maximum)
+    (next_row (option_of_kind number_doc numeral number_of_kind l.exclusive_minimum) no_rows)))))
 
 -- those of an object
 abbrev pub number_limits_of_object : Object → NumberLimits
@@ -269,26 +235,15 @@ size_limit_and_content_docs l =
 
 -- each field is a document of its row
 pub size_limit_and_content_of_rows : (l : SizeLimitsAndContent) → RowsOf (size_limit_and_content_docs l) size_limit_and_content_rows
-unfolding RowsOf
-size_limit_and_content_of_rows l = (
-  option_of_kind whole_doc whole whole_of_kind l.max_length,
-  (
-    option_of_kind whole_doc whole whole_of_kind l.min_length,
-    (
-      option_of_kind text_of text text_of_kind l.pattern,
-      (
-        option_of_kind whole_doc whole whole_of_kind l.max_properties,
-        (
-          option_of_kind whole_doc whole whole_of_kind l.min_properties,
-          (
-            text_of_kind l.content_encoding,
-            (text_of_kind l.content_media_type, tt),
-          ),
-        ),
-      ),
-    ),
-  ),
-)
+size_limit_and_content_of_rows l =
+    rows_of_kind
+    (next_row (option_of_kind whole_doc whole whole_of_kind l.max_length)
+    (next_row (option_of_kind whole_doc whole whole_of_kind l.min_length)
+    (next_row (option_of_kind text_of text text_of_kind l.pattern)
+    (next_row (option_of_kind whole_doc whole whole_of_kind l.max_properties)
+    (next_row (option_of_kind whole_doc whole whole_of_kind l.min_properties)
+    (next_row (text_of_kind l.content_encoding)
+    (next_row (text_of_kind l.content_media_type) no_rows)))))))
 
 -- those of an object
 abbrev pub size_limits_and_content_of_object : Object → SizeLimitsAndContent
@@ -316,11 +271,10 @@ array_head_docs h =
 
 -- each field is a document of its row
 pub array_head_of_rows : (h : ArrayHead) → RowsOf (array_head_docs h) array_head_rows
-unfolding RowsOf
-array_head_of_rows h = (
-  schema_type_of_kind h.schema_type,
-  (option_of_kind text_of text text_of_kind h.title, tt),
-)
+array_head_of_rows h =
+    rows_of_kind
+    (next_row (schema_type_of_kind h.schema_type)
+    (next_row (option_of_kind text_of text text_of_kind h.title) no_rows))
 
 -- those of an array
 abbrev pub head_of_array : Array → ArrayHead
@@ -346,20 +300,13 @@ array_annotation_docs a =
 
 -- each field is a document of its row
 pub array_annotation_of_rows : (a : ArrayAnnotations) → RowsOf (array_annotation_docs a) array_annotation_rows
-unfolding RowsOf
-array_annotation_of_rows a = (
-  option_of_kind text_of text text_of_kind a.description,
-  (
-    option_of_kind deprecated_doc flag deprecated_of_kind a.deprecated,
-    (
-      option_of_kind tree_of any tree_of_kind a.example,
-      (
-        list_of_kind tree_of any tree_of_kind a.examples,
-        (option_of_kind tree_of any tree_of_kind a.default, tt),
-      ),
-    ),
-  ),
-)
+array_annotation_of_rows a =
+    rows_of_kind
+    (next_row (option_of_kind text_of text text_of_kind a.description)
+    (next_row (option_of_kind deprecated_doc flag deprecated_of_kind a.deprecated)
+    (next_row (option_of_kind tree_of any tree_of_kind a.example)
+    (next_row (list_of_kind tree_of any tree_of_kind a.examples)
+    (next_row (option_of_kind tree_of any tree_of_kind a.default) no_rows)))))
 
 -- those of an array
 abbrev pub annotations_of_array : Array → ArrayAnnotations
@@ -389,23 +336,14 @@ item_limit_and_representation_docs l =
 
 -- each field is a document of its row
 pub item_limit_and_representation_of_rows : (l : ItemLimitsAndRepresentation) → RowsOf (item_limit_and_representation_docs l) item_limit_and_representation_rows
-unfolding RowsOf
-item_limit_and_representation_of_rows l = (
-  option_of_kind whole_doc whole whole_of_kind l.max_items,
-  (
-    option_of_kind whole_doc whole whole_of_kind l.min_items,
-    (
-      flag_of_kind l.unique_items,
-      (
-        option_of_kind xml_doc (named xml_object) xml_of_kind l.xml,
-        (
-          text_of_kind l.content_encoding,
-          (text_of_kind l.content_media_type, tt),
-        ),
-      ),
-    ),
-  ),
-)
+item_limit_and_representation_of_rows l =
+    rows_of_kind
+    (next_row (option_of_kind whole_doc whole whole_of_kind l.max_items)
+    (next_row (option_of_kind whole_doc whole whole_of_kind l.min_items)
+    (next_row (flag_of_kind l.unique_items)
+    (next_row (option_of_kind xml_doc (named xml_object) xml_of_kind l.xml)
+    (next_row (text_of_kind l.content_encoding)
+    (next_row (text_of_kind l.content_media_type) no_rows))))))
 
 -- those of an array
 abbrev pub item_limits_and_representation_of_array : Array → ItemLimitsAndRepresentation

@@ -1,12 +1,12 @@
 -- The mappings of discriminators, and their documents.
-use Rattle.std.specs.Prelude.{List, [], ◌∷◌, option_map, refl, String, string_cmp}
+use Rattle.std.specs.Prelude.{List, [], ◌∷◌, option_map, String, string_cmp}
 use Rattle.std.specs.BTreeMap.{insert_entry}
 use Rattle.std.specs.declared.alloc.Global.{Global}
 use Rattle.utoipa_base.specs.Kinds.{named, discriminator_object, text}
 use Rattle.utoipa_base.specs.Docs.{Doc, table_doc, no_docs, doc}
 use Rattle.utoipa_base.specs.Extensions.{extensions_view}
-use Rattle.utoipa_base.specs.OfKind.{text_of_kind, map_of_kind, extends_of_kind}
-use Rattle.utoipa_base.specs.Shape.{IsOf, RowsOf, value_of}
+use Rattle.utoipa_base.specs.OfKind.{text_of_kind, map_of_kind, extends_of_kind, no_rows, next_row, table_of_kind}
+use Rattle.utoipa_base.specs.Shape.{IsOf, value_of}
 use Rattle.utoipa_base.specs.Views.{text_of, map_of_docs}
 use Rattle.utoipa_schema_parts.specs.declared.discriminator.Discriminator.{Discriminator}
 
@@ -29,9 +29,8 @@ discriminator_doc d =
 
 -- a discriminator is an object of its type
 pub discriminator_of_kind : (d : Discriminator) → IsOf (discriminator_doc d) (value_of (named discriminator_object))
-unfolding IsOf RowsOf
-discriminator_of_kind d = (
-  refl,
-  (text_of_kind d.property_name, (map_of_kind text_of text text_of_kind d.mapping, tt)),
-  extends_of_kind (option_map extensions_view d.extensions),
-)
+discriminator_of_kind d =
+    table_of_kind _ _
+    (next_row (text_of_kind d.property_name)
+    (next_row (map_of_kind text_of text text_of_kind d.mapping) no_rows))
+    (extends_of_kind (option_map extensions_view d.extensions))

@@ -1,10 +1,10 @@
 -- The documents of XML objects.
-use Rattle.std.specs.Prelude.{None, refl}
+use Rattle.std.specs.Prelude.{None}
 use Rattle.utoipa_base.specs.Kinds.{named, xml_object, text, flag}
 use Rattle.utoipa_base.specs.Docs.{Doc, table_doc, no_docs, doc, flag_doc}
 use Rattle.utoipa_base.specs.Views.{text_of, option_of}
-use Rattle.utoipa_base.specs.Shape.{IsOf, RowsOf, value_of}
-use Rattle.utoipa_base.specs.OfKind.{text_of_kind, flag_of_kind, option_of_kind}
+use Rattle.utoipa_base.specs.Shape.{IsOf, value_of}
+use Rattle.utoipa_base.specs.OfKind.{text_of_kind, flag_of_kind, option_of_kind, no_rows, next_row, table_of_kind}
 use Rattle.utoipa_schema_parts.specs.declared.xml.Xml.{Xml}
 use Rattle.utoipa_schema_parts.specs.declared.xml.XmlBuilder.{XmlBuilder}
 
@@ -30,24 +30,12 @@ xml_doc x =
 
 -- why an XML object is of its kind
 pub xml_of_kind : (x : Xml) → IsOf (xml_doc x) (value_of (named xml_object))
-unfolding IsOf RowsOf
-xml_of_kind x = (
-  refl,
-  (
-    option_of_kind text_of text text_of_kind x.name,
-    (
-      option_of_kind text_of text text_of_kind x.namespace,
-      (
-        option_of_kind text_of text text_of_kind x.prefix,
-        (
-          option_of_kind text_of text text_of_kind x.node_type,
-          (
-            option_of_kind flag_doc flag flag_of_kind x.attribute,
-            (option_of_kind flag_doc flag flag_of_kind x.wrapped, tt),
-          ),
-        ),
-      ),
-    ),
-  ),
-  tt,
-)
+xml_of_kind x =
+    table_of_kind _ _
+    (next_row (option_of_kind text_of text text_of_kind x.name)
+    (next_row (option_of_kind text_of text text_of_kind x.namespace)
+    (next_row (option_of_kind text_of text text_of_kind x.prefix)
+    (next_row (option_of_kind text_of text text_of_kind x.node_type)
+    (next_row (option_of_kind flag_doc flag flag_of_kind x.attribute)
+    (next_row (option_of_kind flag_doc flag flag_of_kind x.wrapped) no_rows))))))
+    tt
