@@ -159,8 +159,6 @@ pub write_rows-cons : (d : Doc) (ds : Docs) (r : Row) (rs : List Row) (ms : Memb
 unfolding write_rows put_field
 write_rows-cons d ds r rs ms = refl
 
-pub ruleset by_table = (fields-nil, fields-fit, fields-first, fields-later, table_fits, table_refused, read-no_object)
-
 pub ruleset by_writing = (write-table, write_rows-nil, write_rows-cons, the_lemmas)
 
 pub no_extensions : (d : Data) → None ≡ extensions_at false d

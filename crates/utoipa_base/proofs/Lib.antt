@@ -24,6 +24,7 @@ pub mod WhatIsRead
 pub mod WritingLists
 pub mod WritingMaps
 pub mod TableParts
+pub mod TableCounts
 pub mod Members
 pub mod Weights
 pub mod Tried

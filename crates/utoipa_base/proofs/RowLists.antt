@@ -18,30 +18,23 @@ use Rattle.utoipa_base.specs.Faults.{Refuses}
 use Rattle.utoipa_base.specs.declared.fault.ReadFault.{ReadFault}
 use Rattle.utoipa_base.proofs.Places.{schema_count-table, schema_count-list, docs_schema_count-none, docs_schema_count-cons}
 use Rattle.utoipa_base.proofs.ByRows.{passes_on, fields-fit, fields-first, fields-later, fields-nil, table_refused, table_fits, no_extensions, write_rows-cons, table_written}
+use Rattle.utoipa_base.proofs.TableParts.{fields_of_part, no_fields_of_part}
 use Rattle.utoipa_base.proofs.Values.{table_values, names_of}
 use Rattle.utoipa_base.specs.Reads.{Reads}
 use Rattle.serde_json.specs.Find.{get}
 use Rattle.utoipa_base.specs.Values.{values_of}
 use Rattle.utoipa_base.specs.Rows.{part, rows_values, texts, rows_from}
 
-part_none : (o : Option Docs) → option_map list_doc o ≡ None → o ≡ None
-part_none None e = refl
-part_none (Some ds) e = cc
-
-pub part_some : (o : Option Docs) (ds : Docs) → option_map list_doc o ≡ Some (list_doc ds) → o ≡ Some ds
-part_some None ds e = cc
-part_some (Some es) ds e = cc
-
 pub first_refused : (r : Row) (rs : List Row) (d : Data) → field r d ≡ None → part (r ∷ rs) d ≡ None
 first_refused r rs d h = ap (option_map list_doc) (fields-first r rs d h)
 
 pub later_refused : (r : Row) (rs : List Row) (d : Data) → part rs d ≡ None → part (r ∷ rs) d ≡ None
-later_refused r rs d h = ap (option_map list_doc) (fields-later r rs d (part_none _ h))
+later_refused r rs d h = ap (option_map list_doc) (fields-later r rs d (no_fields_of_part rs d h))
 
 pub rows_refused : (n : ObjectType) (rs : List Row) (d : Data) → rs ≡ table n → part rs d ≡ None → read (named n) d ≡ None
 rows_refused n rs d is h =
     let P : List Row → Type 0 = λ x. fields x d ≡ None in
-    table_refused n d (subst P is (part_none _ h))
+    table_refused n d (subst P is (no_fields_of_part rs d h))
 
 pub rows_fit : (kept : Bool) (n : ObjectType) (rs : List Row) (d : Data) (ds : Docs) (e : Option Members) → rs ≡ table n → has_extensions n ≡ kept → is_some (as_object d) ≡ true → fields rs d ≡ Some ds → e ≡ extensions_at kept d
     → read (named n) d ≡ Some (table_doc n ds e)
@@ -109,7 +102,7 @@ pub both_read : {A B : Type 0} (f : A → Doc) (g : B → Docs) (r : Row) (rs : 
     → Reads {A = A × B} (part (r ∷ rs) d) (λ v. list_doc (doc (f v.0) (g v.1))) (Ok (a, b)) old new (rows_values (r ∷ rs) d)
 both_read f g r rs d a b old mid new one rest =
     record {
-      ok = ap (option_map list_doc) (fields-fit r rs d _ _ one.ok (part_some _ _ rest.ok));
+      ok = ap (option_map list_doc) (fields-fit r rs d _ _ one.ok (fields_of_part rs d _ rest.ok));
       err = tt;
       grows = omega (arith, one.grows, rest.grows);
       at_most = omega (arith, one.at_most, rest.at_most);
@@ -136,7 +129,7 @@ pub table_alone : {A : Type 0} (docs : A → Docs) (n : ObjectType) (rs : List R
     → Reads (part rs d) (λ v. list_doc (docs v)) r old new (rows_values rs d) → Reads (read (named n) d) (λ v. table_doc n (docs v) None) r old new (values d)
 table_alone docs n rs d (Ok v) old new is alone object reads =
     record {
-      ok = rows_fit false n rs d (docs v) None is alone object (part_some _ _ reads.ok) (no_extensions d);
+      ok = rows_fit false n rs d (docs v) None is alone object (fields_of_part rs d _ reads.ok) (no_extensions d);
       err = tt;
       grows = reads.grows;
       at_most = omega (arith, reads.at_most, rows_fewer n rs d is);

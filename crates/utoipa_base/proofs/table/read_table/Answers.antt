@@ -2,7 +2,8 @@ use Rattle.std.proofs.Common.{◌≡◌, ◌∙◌, is_some, true, sym, arith, r
 use Rattle.serde_json.specs.Find.{as_object}
 use Rattle.serde_json.specs.View.{view}
 use Rattle.utoipa_base.proofs.ByRows.{read-no_object}
-use Rattle.utoipa_base.proofs.RowLists.{rows_refused, rows_fewer, rows_fit, part_some, list_as_table, passes_reads}
+use Rattle.utoipa_base.proofs.TableParts.{fields_of_part}
+use Rattle.utoipa_base.proofs.RowLists.{rows_refused, rows_fewer, rows_fit, list_as_table, passes_reads}
 use Rattle.utoipa_base.proofs.table.read_table.Goals as goal
 
 pub returns-then-not-is_object : goal.returns-then-not-is_object
@@ -23,7 +24,7 @@ returns g c = λ n is extended.
     let object : is_some (as_object (view c.args.tree.now)) ≡ true = sym c.is_object.ensures ∙ c.if-not-is_object.false in
     let less = rows_fewer n _ (view c.args.tree.now) is in
     record {
-      ok = rows_fit true n _ _ _ _ is extended object (part_some _ _ c.in_ok-fields.ensures.ok) c.in_ok-extensions.ensures;
+      ok = rows_fit true n _ _ _ _ is extended object (fields_of_part _ _ _ c.in_ok-fields.ensures.ok) c.in_ok-extensions.ensures;
       err = tt;
       grows = c.in_ok-fields.ensures.grows;
       at_most = omega (arith, c.in_ok-fields.ensures.at_most, less);
