@@ -5,7 +5,10 @@ ghost use Rattle.utoipa_base.specs.Kinds.{named, example_object};
 use json::Writer;
 use serde_json::Value;
 use std::alloc::{AllocError, Global};
-use utoipa_base::{Extensions, Place, ReadFault, Readings, Tree, clone_table, from_fields, read_table, row_names, row_values, write_table, print_table};
+use utoipa_base::{
+    Extensions, Place, ReadFault, Readings, Tree, clone_table, from_fields, print_table,
+    read_table, row_names, row_values, write_table,
+};
 
 // The rows of an example, in the order of its member table: mark, member, field.
 macro_rules! example_rows {

@@ -6,7 +6,10 @@ ghost use Rattle.utoipa_base.specs.WellFormed.{has_fraction};
 use json::Writer;
 use serde_json::Value;
 use std::alloc::{AllocError, Global};
-use utoipa_base::{Extensions, ReadFault, Readings, Same, Tree, clone_table, from_fields, read_table, row_names, row_values, same_table, table_has_fraction, write_table, print_table};
+use utoipa_base::{
+    Extensions, ReadFault, Readings, Same, Tree, clone_table, from_fields, print_table, read_table,
+    row_names, row_values, same_table, table_has_fraction, write_table,
+};
 
 // The rows of external documentation, in the order of its member table: mark, member, field.
 macro_rules! external_docs_rows {

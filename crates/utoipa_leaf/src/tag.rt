@@ -7,7 +7,10 @@ use crate::external_docs::ExternalDocs;
 use json::Writer;
 use serde_json::Value;
 use std::alloc::{AllocError, Global};
-use utoipa_base::{Extensions, ReadFault, Readings, Same, Tree, clone_table, from_fields, read_table, row_names, row_values, same_table, table_has_fraction, write_table, print_table};
+use utoipa_base::{
+    Extensions, ReadFault, Readings, Same, Tree, clone_table, from_fields, print_table, read_table,
+    row_names, row_values, same_table, table_has_fraction, write_table,
+};
 
 // The rows of a tag, in the order of its member table: mark, member, field.
 macro_rules! tag_rows {
