@@ -6,8 +6,8 @@ use Rattle.utoipa_base.specs.Docs.{Doc, tagged_doc, table_doc, no_docs, doc}
 use Rattle.utoipa_base.specs.Extensions.{extensions_view}
 use Rattle.utoipa_base.specs.Flags.{deprecated_doc}
 use Rattle.utoipa_base.specs.Views.{text_of, option_of}
-use Rattle.utoipa_base.specs.Shape.{IsOf, RowsOf, value_of}
-use Rattle.utoipa_base.specs.OfKind.{text_of_kind, option_of_kind, deprecated_of_kind, extends_of_kind}
+use Rattle.utoipa_base.specs.Shape.{IsOf, value_of}
+use Rattle.utoipa_base.specs.OfKind.{text_of_kind, option_of_kind, deprecated_of_kind, extends_of_kind, table_of_kind, next_row, no_rows}
 use Rattle.utoipa_base.specs.Choices.{api_key_places}
 use Rattle.utoipa_security.specs.declared.security.api_key.ApiKey.{ApiKey}
 use Rattle.utoipa_security.specs.declared.security.api_key.ApiKey.TheVariants as made
@@ -30,12 +30,12 @@ api_key_value_doc s =
 
 -- an API key is an object of its type
 pub api_key_value_of_kind : (s : ApiKeyValue) → IsOf (api_key_value_doc s) (value_of (named api_key_scheme))
-unfolding IsOf RowsOf
-api_key_value_of_kind s = (
-  refl,
-  (text_of_kind s.name, (option_of_kind text_of text text_of_kind s.description, (option_of_kind deprecated_doc flag deprecated_of_kind s.deprecated, tt))),
-  extends_of_kind (option_map extensions_view s.extensions),
-)
+api_key_value_of_kind s =
+    table_of_kind _ _
+    (next_row (text_of_kind s.name)
+    (next_row (option_of_kind text_of text text_of_kind s.description)
+    (next_row (option_of_kind deprecated_doc flag deprecated_of_kind s.deprecated) no_rows)))
+    (extends_of_kind (option_map extensions_view s.extensions))
 
 -- ---- an API key in its place
 

@@ -1,12 +1,12 @@
 -- The documents of OAuth flows of each kind.
-use Rattle.std.specs.Prelude.{Option, None, option_map, refl, String}
+use Rattle.std.specs.Prelude.{Option, None, option_map, String}
 use Rattle.std.specs.declared.alloc.Global.{Global}
 use Rattle.utoipa_base.specs.Kinds.{named, implicit_flow, password_flow, client_credentials_flow, authorization_code_flow, device_authorization_flow, text}
 use Rattle.utoipa_base.specs.Docs.{Doc, table_doc, no_docs, doc}
 use Rattle.utoipa_base.specs.Extensions.{extensions_view}
 use Rattle.utoipa_base.specs.Views.{text_of, option_of}
-use Rattle.utoipa_base.specs.Shape.{IsOf, RowsOf, value_of}
-use Rattle.utoipa_base.specs.OfKind.{text_of_kind, option_of_kind, extends_of_kind}
+use Rattle.utoipa_base.specs.Shape.{IsOf, value_of}
+use Rattle.utoipa_base.specs.OfKind.{text_of_kind, option_of_kind, extends_of_kind, table_of_kind, next_row, no_rows}
 use Rattle.utoipa_security.specs.Scopes.{scopes_member, scopes_member_of_kind}
 use Rattle.utoipa_security.specs.declared.security.scopes.Scopes.{Scopes}
 use Rattle.utoipa_security.specs.declared.security.flow.Implicit.{Implicit}
@@ -32,12 +32,12 @@ implicit_doc f =
 
 -- the flow's members are an object of their type
 pub implicit_of_kind : (f : Implicit) → IsOf (implicit_doc f) (value_of (named implicit_flow))
-unfolding IsOf RowsOf
-implicit_of_kind f = (
-  refl,
-  (text_of_kind f.authorization_url, (option_of_kind text_of text text_of_kind f.refresh_url, (scopes_member_of_kind f.scopes, tt))),
-  extends_of_kind (option_map extensions_view f.extensions),
-)
+implicit_of_kind f =
+    table_of_kind _ _
+    (next_row (text_of_kind f.authorization_url)
+    (next_row (option_of_kind text_of text text_of_kind f.refresh_url)
+    (next_row (scopes_member_of_kind f.scopes) no_rows)))
+    (extends_of_kind (option_map extensions_view f.extensions))
 
 -- ---- the flow by the password of the resource owner
 
@@ -56,12 +56,12 @@ password_doc f =
 
 -- the flow's members are an object of their type
 pub password_of_kind : (f : Password) → IsOf (password_doc f) (value_of (named password_flow))
-unfolding IsOf RowsOf
-password_of_kind f = (
-  refl,
-  (text_of_kind f.token_url, (option_of_kind text_of text text_of_kind f.refresh_url, (scopes_member_of_kind f.scopes, tt))),
-  extends_of_kind (option_map extensions_view f.extensions),
-)
+password_of_kind f =
+    table_of_kind _ _
+    (next_row (text_of_kind f.token_url)
+    (next_row (option_of_kind text_of text text_of_kind f.refresh_url)
+    (next_row (scopes_member_of_kind f.scopes) no_rows)))
+    (extends_of_kind (option_map extensions_view f.extensions))
 
 -- ---- the flow by the credentials of the client
 
@@ -80,12 +80,12 @@ client_credentials_doc f =
 
 -- the flow's members are an object of their type
 pub client_credentials_of_kind : (f : ClientCredentials) → IsOf (client_credentials_doc f) (value_of (named client_credentials_flow))
-unfolding IsOf RowsOf
-client_credentials_of_kind f = (
-  refl,
-  (text_of_kind f.token_url, (option_of_kind text_of text text_of_kind f.refresh_url, (scopes_member_of_kind f.scopes, tt))),
-  extends_of_kind (option_map extensions_view f.extensions),
-)
+client_credentials_of_kind f =
+    table_of_kind _ _
+    (next_row (text_of_kind f.token_url)
+    (next_row (option_of_kind text_of text text_of_kind f.refresh_url)
+    (next_row (scopes_member_of_kind f.scopes) no_rows)))
+    (extends_of_kind (option_map extensions_view f.extensions))
 
 -- ---- the flow by an authorization code
 
@@ -105,12 +105,13 @@ authorization_code_doc f =
 
 -- the flow's members are an object of their type
 pub authorization_code_of_kind : (f : AuthorizationCode) → IsOf (authorization_code_doc f) (value_of (named authorization_code_flow))
-unfolding IsOf RowsOf
-authorization_code_of_kind f = (
-  refl,
-  (text_of_kind f.authorization_url, (text_of_kind f.token_url, (option_of_kind text_of text text_of_kind f.refresh_url, (scopes_member_of_kind f.scopes, tt)))),
-  extends_of_kind (option_map extensions_view f.extensions),
-)
+authorization_code_of_kind f =
+    table_of_kind _ _
+    (next_row (text_of_kind f.authorization_url)
+    (next_row (text_of_kind f.token_url)
+    (next_row (option_of_kind text_of text text_of_kind f.refresh_url)
+    (next_row (scopes_member_of_kind f.scopes) no_rows))))
+    (extends_of_kind (option_map extensions_view f.extensions))
 
 -- ---- the flow of devices without a browser, from OpenAPI 3.2 on
 
@@ -130,9 +131,10 @@ device_authorization_doc f =
 
 -- the flow's members are an object of their type
 pub device_authorization_of_kind : (f : DeviceAuthorization) → IsOf (device_authorization_doc f) (value_of (named device_authorization_flow))
-unfolding IsOf RowsOf
-device_authorization_of_kind f = (
-  refl,
-  (text_of_kind f.device_authorization_url, (text_of_kind f.token_url, (option_of_kind text_of text text_of_kind f.refresh_url, (scopes_member_of_kind f.scopes, tt)))),
-  extends_of_kind (option_map extensions_view f.extensions),
-)
+device_authorization_of_kind f =
+    table_of_kind _ _
+    (next_row (text_of_kind f.device_authorization_url)
+    (next_row (text_of_kind f.token_url)
+    (next_row (option_of_kind text_of text text_of_kind f.refresh_url)
+    (next_row (scopes_member_of_kind f.scopes) no_rows))))
+    (extends_of_kind (option_map extensions_view f.extensions))

@@ -6,8 +6,8 @@ use Rattle.utoipa_base.specs.Docs.{Doc, table_doc, no_docs, doc}
 use Rattle.utoipa_base.specs.Extensions.{extensions_view}
 use Rattle.utoipa_base.specs.Flags.{deprecated_doc}
 use Rattle.utoipa_base.specs.Views.{text_of, option_of}
-use Rattle.utoipa_base.specs.Shape.{IsOf, RowsOf, value_of}
-use Rattle.utoipa_base.specs.OfKind.{text_of_kind, option_of_kind, deprecated_of_kind, extends_of_kind}
+use Rattle.utoipa_base.specs.Shape.{IsOf, value_of}
+use Rattle.utoipa_base.specs.OfKind.{text_of_kind, option_of_kind, deprecated_of_kind, extends_of_kind, table_of_kind, next_row, no_rows}
 use Rattle.utoipa_base.specs.Vocabularies.{with_text, word_by, word_of_kind}
 use Rattle.utoipa_security.specs.declared.security.http.Http.{Http}
 use Rattle.utoipa_security.specs.declared.security.http.HttpBuilder.{HttpBuilder}
@@ -81,15 +81,10 @@ http_doc s =
 
 -- a scheme by HTTP is an object of its type
 pub http_of_kind : (s : Http) → IsOf (http_doc s) (value_of (named http_scheme))
-unfolding IsOf RowsOf
-http_of_kind s = (
-  refl,
-  (
-    auth_scheme_of_kind s.scheme,
-    (
-      option_of_kind text_of text text_of_kind s.bearer_format,
-      (option_of_kind text_of text text_of_kind s.description, (option_of_kind deprecated_doc flag deprecated_of_kind s.deprecated, tt)),
-    ),
-  ),
-  extends_of_kind (option_map extensions_view s.extensions),
-)
+http_of_kind s =
+    table_of_kind _ _
+    (next_row (auth_scheme_of_kind s.scheme)
+    (next_row (option_of_kind text_of text text_of_kind s.bearer_format)
+    (next_row (option_of_kind text_of text text_of_kind s.description)
+    (next_row (option_of_kind deprecated_doc flag deprecated_of_kind s.deprecated) no_rows))))
+    (extends_of_kind (option_map extensions_view s.extensions))

@@ -11,9 +11,9 @@ use Rattle.utoipa_base.specs.Docs.{Doc, flow_doc, table_doc, no_docs, doc}
 use Rattle.utoipa_base.specs.Extensions.{extensions_view}
 use Rattle.utoipa_base.specs.Flags.{deprecated_doc}
 use Rattle.utoipa_base.specs.Kinds.{ObjectType, named, text, flag, flows, oauth2_scheme, implicit_flow, password_flow, client_credentials_flow, authorization_code_flow, device_authorization_flow}
-use Rattle.utoipa_base.specs.OfKind.{text_of_kind, option_of_kind, deprecated_of_kind, extends_of_kind, entries_of_kind}
+use Rattle.utoipa_base.specs.OfKind.{text_of_kind, option_of_kind, deprecated_of_kind, extends_of_kind, entries_of_kind, table_of_kind, next_row, no_rows}
 use Rattle.utoipa_base.specs.Reading.{reader, read_flow}
-use Rattle.utoipa_base.specs.Shape.{IsOf, RowsOf, value_of, flow_place}
+use Rattle.utoipa_base.specs.Shape.{IsOf, value_of, flow_place}
 use Rattle.utoipa_base.specs.Views.{text_of, option_of, map_of_docs}
 use Rattle.utoipa_security.specs.Flows as tables
 use Rattle.utoipa_security.specs.declared.security.flows.Flow.{Flow}
@@ -126,15 +126,10 @@ oauth2_doc s =
 
 -- a scheme by OAuth is an object of its type
 pub oauth2_of_kind : (s : OAuth2) → IsOf (oauth2_doc s) (value_of (named oauth2_scheme))
-unfolding IsOf RowsOf
-oauth2_of_kind s = (
-  refl,
-  (
-    flows_of_kind s.flows,
-    (
-      option_of_kind text_of text text_of_kind s.oauth2_metadata_url,
-      (option_of_kind text_of text text_of_kind s.description, (option_of_kind deprecated_doc flag deprecated_of_kind s.deprecated, tt)),
-    ),
-  ),
-  extends_of_kind (option_map extensions_view s.extensions),
-)
+oauth2_of_kind s =
+    table_of_kind _ _
+    (next_row (flows_of_kind s.flows)
+    (next_row (option_of_kind text_of text text_of_kind s.oauth2_metadata_url)
+    (next_row (option_of_kind text_of text text_of_kind s.description)
+    (next_row (option_of_kind deprecated_doc flag deprecated_of_kind s.deprecated) no_rows))))
+    (extends_of_kind (option_map extensions_view s.extensions))

@@ -6,8 +6,8 @@ use Rattle.utoipa_base.specs.Docs.{Doc, tagged_doc, table_doc, no_docs, doc}
 use Rattle.utoipa_base.specs.Extensions.{extensions_view}
 use Rattle.utoipa_base.specs.Flags.{deprecated_doc}
 use Rattle.utoipa_base.specs.Kinds.{Kind, named, text, flag, security_scheme, api_key, oauth2_scheme, http_scheme, open_id_connect_scheme, mutual_tls_scheme}
-use Rattle.utoipa_base.specs.OfKind.{text_of_kind, option_of_kind, deprecated_of_kind, extends_of_kind}
-use Rattle.utoipa_base.specs.Shape.{IsOf, RowsOf, value_of}
+use Rattle.utoipa_base.specs.OfKind.{text_of_kind, option_of_kind, deprecated_of_kind, extends_of_kind, table_of_kind, next_row, no_rows}
+use Rattle.utoipa_base.specs.Shape.{IsOf, value_of}
 use Rattle.utoipa_base.specs.Views.{text_of, option_of}
 use Rattle.utoipa_base.specs.declared.deprecated.Deprecated.{Deprecated}
 use Rattle.utoipa_base.specs.declared.extensions.Extensions.{Extensions}
@@ -74,12 +74,11 @@ scheme_doc s = tagged_doc (codes "type") (scheme_type_text (type_of s)) (scheme_
 
 -- the members of a scheme by mutual TLS are an object of their type
 mutual_tls_of_kind : (description : Option (String Global)) (deprecated : Option Deprecated) (extensions : Option Extensions) → IsOf (mutual_tls_doc description deprecated extensions) (value_of (named mutual_tls_scheme))
-unfolding IsOf RowsOf
-mutual_tls_of_kind description deprecated extensions = (
-  refl,
-  (option_of_kind text_of text text_of_kind description, (option_of_kind deprecated_doc flag deprecated_of_kind deprecated, tt)),
-  extends_of_kind (option_map extensions_view extensions),
-)
+mutual_tls_of_kind description deprecated extensions =
+    table_of_kind _ _
+    (next_row (option_of_kind text_of text text_of_kind description)
+    (next_row (option_of_kind deprecated_doc flag deprecated_of_kind deprecated) no_rows))
+    (extends_of_kind (option_map extensions_view extensions))
 
 -- a scheme is a security scheme
 pub scheme_of_kind : (s : SecurityScheme) → IsOf (scheme_doc s) (value_of security_scheme)

@@ -1,12 +1,12 @@
 -- The scopes of OAuth flows, and their documents.
-use Rattle.std.specs.Prelude.{List, [], ◌∷◌, None, refl, String, string_cmp}
+use Rattle.std.specs.Prelude.{List, [], ◌∷◌, None, String, string_cmp}
 use Rattle.std.specs.BTreeMap.{insert_entry}
 use Rattle.std.specs.declared.alloc.Global.{Global}
 use Rattle.utoipa_base.specs.Kinds.{named, scopes_object, text, map_of}
 use Rattle.utoipa_base.specs.Docs.{Doc, table_doc, no_docs, doc}
-use Rattle.utoipa_base.specs.Shape.{IsOf, RowsOf, value_of}
+use Rattle.utoipa_base.specs.Shape.{IsOf, value_of}
 use Rattle.utoipa_base.specs.Views.{text_of, map_of_docs}
-use Rattle.utoipa_base.specs.OfKind.{text_of_kind, map_of_kind}
+use Rattle.utoipa_base.specs.OfKind.{text_of_kind, map_of_kind, table_of_kind, next_row, no_rows}
 use Rattle.utoipa_security.specs.declared.security.scopes.Scopes.{Scopes}
 
 -- names of scopes, each with a description
@@ -36,5 +36,7 @@ scopes_member_of_kind s = map_of_kind text_of text text_of_kind s.scopes
 
 -- scopes by themselves are an object of their type
 pub scopes_of_kind : (s : Scopes) → IsOf (scopes_doc s) (value_of (named scopes_object))
-unfolding IsOf RowsOf
-scopes_of_kind s = (refl, (scopes_member_of_kind s, tt), tt)
+scopes_of_kind s =
+    table_of_kind _ _
+    (next_row (scopes_member_of_kind s) no_rows)
+    tt

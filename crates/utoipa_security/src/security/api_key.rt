@@ -5,11 +5,13 @@ ghost use Rattle.utoipa_base.specs.Kinds.{named, api_key_scheme, api_key};
 ghost use Rattle.utoipa_base.specs.Vocabularies.{with_text};
 ghost use Rattle.utoipa_security.specs.ApiKey.{api_key_value_doc, api_key_doc, api_key_of_kind, key_place_text, every_key_place};
 
-use crate::security::row_lists::{clone_rows, read_rows, write_rows};
 use crate::security::scheme_type::{read_type, with_type};
 use serde_json::Value;
 use std::alloc::{AllocError, Global};
-use utoipa_base::{Deprecated, Extensions, ReadFault, Readings, Tree};
+use utoipa_base::{
+    Deprecated, Extensions, ReadFault, Readings, Tree, clone_table, from_fields, read_table,
+    row_names, row_values, write_table,
+};
 
 // The rows of an API key, in the order of its member table: mark, member, field.
 macro_rules! api_key_rows {
@@ -86,15 +88,19 @@ impl Tree for ApiKeyValue {
         tree: &Value,
         readings: &mut Readings,
     ) -> Result<ApiKeyValue, ReadFault> {
-        api_key_rows!(read_rows!(ApiKeyValue, alloc, tree, readings))
+        let names = api_key_rows!(row_names!());
+        let (fields, extensions) = read_table(alloc, tree, "ApiKeyValue", names, readings)?;
+        Ok(api_key_rows!(from_fields!(ApiKeyValue, fields, extensions)))
     }
 
     fn to_value(&self, alloc: Global) -> Result<Value, AllocError> {
-        api_key_rows!(write_rows!(self, alloc))
+        let names = api_key_rows!(row_names!());
+        let values = api_key_rows!(row_values!(self));
+        write_table(alloc, names, &values, &self.extensions)
     }
 
     fn try_clone(&self, alloc: Global) -> Result<ApiKeyValue, AllocError> {
-        api_key_rows!(clone_rows!(ApiKeyValue, self, alloc))
+        api_key_rows!(clone_table!(ApiKeyValue, self, alloc))
     }
 }
 

@@ -2,11 +2,11 @@
 ghost use Rattle.std.specs.Prelude.{◌≡◌, None, Some, refl, false};
 ghost use Rattle.utoipa_base.specs.Kinds.{named, implicit_flow, password_flow, client_credentials_flow, authorization_code_flow, device_authorization_flow};
 
-use crate::security::row_lists::{clone_rows, read_rows, write_rows};
+use crate::security::row_lists::{clone_table, from_fields, row_values};
 use crate::security::scopes::Scopes;
 use serde_json::Value;
 use std::alloc::{AllocError, Global};
-use utoipa_base::{Extensions, ReadFault, Readings, Tree};
+use utoipa_base::{Extensions, ReadFault, Readings, Tree, read_table, row_names, write_table};
 
 // The rows of the implicit flow, in the order of its member table: mark, member, field.
 macro_rules! implicit_rows {
@@ -79,15 +79,19 @@ impl Tree for Implicit {
         tree: &Value,
         readings: &mut Readings,
     ) -> Result<Implicit, ReadFault> {
-        implicit_rows!(read_rows!(Implicit, alloc, tree, readings))
+        let names = implicit_rows!(row_names!());
+        let (fields, extensions) = read_table(alloc, tree, "Implicit", names, readings)?;
+        Ok(implicit_rows!(from_fields!(Implicit, fields, extensions)))
     }
 
     fn to_value(&self, alloc: Global) -> Result<Value, AllocError> {
-        implicit_rows!(write_rows!(self, alloc))
+        let names = implicit_rows!(row_names!());
+        let values = implicit_rows!(row_values!(self));
+        write_table(alloc, names, &values, &self.extensions)
     }
 
     fn try_clone(&self, alloc: Global) -> Result<Implicit, AllocError> {
-        implicit_rows!(clone_rows!(Implicit, self, alloc))
+        implicit_rows!(clone_table!(Implicit, self, alloc))
     }
 }
 
@@ -158,15 +162,19 @@ impl Tree for Password {
         tree: &Value,
         readings: &mut Readings,
     ) -> Result<Password, ReadFault> {
-        password_rows!(read_rows!(Password, alloc, tree, readings))
+        let names = password_rows!(row_names!());
+        let (fields, extensions) = read_table(alloc, tree, "Password", names, readings)?;
+        Ok(password_rows!(from_fields!(Password, fields, extensions)))
     }
 
     fn to_value(&self, alloc: Global) -> Result<Value, AllocError> {
-        password_rows!(write_rows!(self, alloc))
+        let names = password_rows!(row_names!());
+        let values = password_rows!(row_values!(self));
+        write_table(alloc, names, &values, &self.extensions)
     }
 
     fn try_clone(&self, alloc: Global) -> Result<Password, AllocError> {
-        password_rows!(clone_rows!(Password, self, alloc))
+        password_rows!(clone_table!(Password, self, alloc))
     }
 }
 
@@ -241,15 +249,19 @@ impl Tree for ClientCredentials {
         tree: &Value,
         readings: &mut Readings,
     ) -> Result<ClientCredentials, ReadFault> {
-        client_credentials_rows!(read_rows!(ClientCredentials, alloc, tree, readings))
+        let names = client_credentials_rows!(row_names!());
+        let (fields, extensions) = read_table(alloc, tree, "ClientCredentials", names, readings)?;
+        Ok(client_credentials_rows!(from_fields!(ClientCredentials, fields, extensions)))
     }
 
     fn to_value(&self, alloc: Global) -> Result<Value, AllocError> {
-        client_credentials_rows!(write_rows!(self, alloc))
+        let names = client_credentials_rows!(row_names!());
+        let values = client_credentials_rows!(row_values!(self));
+        write_table(alloc, names, &values, &self.extensions)
     }
 
     fn try_clone(&self, alloc: Global) -> Result<ClientCredentials, AllocError> {
-        client_credentials_rows!(clone_rows!(ClientCredentials, self, alloc))
+        client_credentials_rows!(clone_table!(ClientCredentials, self, alloc))
     }
 }
 
@@ -330,15 +342,19 @@ impl Tree for AuthorizationCode {
         tree: &Value,
         readings: &mut Readings,
     ) -> Result<AuthorizationCode, ReadFault> {
-        authorization_code_rows!(read_rows!(AuthorizationCode, alloc, tree, readings))
+        let names = authorization_code_rows!(row_names!());
+        let (fields, extensions) = read_table(alloc, tree, "AuthorizationCode", names, readings)?;
+        Ok(authorization_code_rows!(from_fields!(AuthorizationCode, fields, extensions)))
     }
 
     fn to_value(&self, alloc: Global) -> Result<Value, AllocError> {
-        authorization_code_rows!(write_rows!(self, alloc))
+        let names = authorization_code_rows!(row_names!());
+        let values = authorization_code_rows!(row_values!(self));
+        write_table(alloc, names, &values, &self.extensions)
     }
 
     fn try_clone(&self, alloc: Global) -> Result<AuthorizationCode, AllocError> {
-        authorization_code_rows!(clone_rows!(AuthorizationCode, self, alloc))
+        authorization_code_rows!(clone_table!(AuthorizationCode, self, alloc))
     }
 }
 
@@ -423,14 +439,18 @@ impl Tree for DeviceAuthorization {
         tree: &Value,
         readings: &mut Readings,
     ) -> Result<DeviceAuthorization, ReadFault> {
-        device_authorization_rows!(read_rows!(DeviceAuthorization, alloc, tree, readings))
+        let names = device_authorization_rows!(row_names!());
+        let (fields, extensions) = read_table(alloc, tree, "DeviceAuthorization", names, readings)?;
+        Ok(device_authorization_rows!(from_fields!(DeviceAuthorization, fields, extensions)))
     }
 
     fn to_value(&self, alloc: Global) -> Result<Value, AllocError> {
-        device_authorization_rows!(write_rows!(self, alloc))
+        let names = device_authorization_rows!(row_names!());
+        let values = device_authorization_rows!(row_values!(self));
+        write_table(alloc, names, &values, &self.extensions)
     }
 
     fn try_clone(&self, alloc: Global) -> Result<DeviceAuthorization, AllocError> {
-        device_authorization_rows!(clone_rows!(DeviceAuthorization, self, alloc))
+        device_authorization_rows!(clone_table!(DeviceAuthorization, self, alloc))
     }
 }

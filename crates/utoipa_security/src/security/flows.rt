@@ -1,10 +1,9 @@
 //! The flows of OAuth under their keys: the OAuth Flows Object (OpenAPI 3.1, section 4.8.28).
-ghost use Rattle.std.specs.Prelude.{◌≡◌, Some, option_map, IfOk, IfErr, OnOk, OnErr};
+ghost use Rattle.std.specs.Prelude.{◌≡◌, Some, option_map, IfOk, IfErr};
 ghost use Rattle.std.specs.Iterator.{IsFinite};
-ghost use Rattle.serde_json.specs.View.{view, members_view};
+ghost use Rattle.serde_json.specs.View.{view};
 ghost use Rattle.utoipa_base.specs.Choices.{chosen, flow_keys};
 ghost use Rattle.utoipa_base.specs.Faults.{Refuses};
-ghost use Rattle.utoipa_base.specs.Fields.{put_field};
 ghost use Rattle.utoipa_base.specs.Kinds.{named, required};
 ghost use Rattle.utoipa_base.specs.Kinds as kinds;
 ghost use Rattle.utoipa_base.specs.Reading.{read};
@@ -18,7 +17,7 @@ use crate::security::flow::{
 use serde_json::{Map, Value, put};
 use std::alloc::{AllocError, Global};
 use std::collections::BTreeMap;
-use utoipa_base::table::RowField;
+use utoipa_base::table::{RowField, RowValue};
 use utoipa_base::{ReadFault, Readings, Tree};
 
 /// An OAuth Flow Object (OpenAPI 3.1, section 4.8.29) of one of the kinds.
@@ -223,19 +222,24 @@ fn flows_value(alloc: Global, flows: &BTreeMap<String, Flow>) -> Result<Value, A
     Ok(Value::Object(members))
 }
 
-/// Writes the flows of an OAuth scheme. Fails where memory runs out; then the members are as they were.
+/// The flows of an OAuth scheme, to be written: a required member of it.
+#[derive(Clone, Copy)]
+pub(crate) struct FlowsValue<'a>(pub(crate) &'a BTreeMap<String, Flow>);
+
 #[tactic(auto, using(utoipa_base::proofs::ByRows::by_row))]
-pub(crate) fn write_flows(
-    members: &mut Map<String, Value>,
-    alloc: Global,
-    name: &'static str,
-    flows: &BTreeMap<String, Flow>,
-) -> Result<(), AllocError>
-    ensures ok { OnOk result (members_view members.new.entries
-        ≡ put_field (row name.now required kinds.flows) (flows_doc flows.now) (members_view members.old.entries)) }
-    ensures err { OnErr result (members.new.entries ≡ members.old.entries) }
-{
-    put(members, alloc, name, flows_value(alloc, flows)?)
+impl<'a> RowValue for FlowsValue<'a> {
+    ghost line = { λ name. row name required kinds.flows };
+
+    ghost doc = { λ v. flows_doc v.0.now };
+
+    fn write(
+        &self,
+        members: &mut Map<String, Value>,
+        alloc: Global,
+        name: &str,
+    ) -> Result<(), AllocError> {
+        put(members, alloc, name, flows_value(alloc, self.0)?)
+    }
 }
 
 /// Equal flows under the same keys. Fails where memory runs out.

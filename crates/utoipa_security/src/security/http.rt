@@ -2,10 +2,12 @@
 ghost use Rattle.std.specs.Prelude.{◌≡◌, None, Some, refl, false};
 ghost use Rattle.utoipa_base.specs.Kinds.{named, http_scheme, word_of, http_auth_scheme};
 
-use crate::security::row_lists::{clone_rows, read_rows, write_rows};
 use serde_json::Value;
 use std::alloc::{AllocError, Global};
-use utoipa_base::{Deprecated, Extensions, ReadFault, Readings, Tree, Word, read_word, write_word};
+use utoipa_base::{
+    Deprecated, Extensions, ReadFault, Readings, Tree, Word, clone_table, from_fields, read_table,
+    read_word, row_names, row_values, write_table, write_word,
+};
 
 /// The name of an HTTP authentication scheme: the member `scheme` of a Security Scheme Object of the type `http`
 /// (OpenAPI 3.1, section 4.8.27).
@@ -168,15 +170,19 @@ impl Tree for Http {
     ghost is_of_kind = { http_of_kind };
 
     fn read_plain(alloc: Global, tree: &Value, readings: &mut Readings) -> Result<Http, ReadFault> {
-        http_rows!(read_rows!(Http, alloc, tree, readings))
+        let names = http_rows!(row_names!());
+        let (fields, extensions) = read_table(alloc, tree, "Http", names, readings)?;
+        Ok(http_rows!(from_fields!(Http, fields, extensions)))
     }
 
     fn to_value(&self, alloc: Global) -> Result<Value, AllocError> {
-        http_rows!(write_rows!(self, alloc))
+        let names = http_rows!(row_names!());
+        let values = http_rows!(row_values!(self));
+        write_table(alloc, names, &values, &self.extensions)
     }
 
     fn try_clone(&self, alloc: Global) -> Result<Http, AllocError> {
-        http_rows!(clone_rows!(Http, self, alloc))
+        http_rows!(clone_table!(Http, self, alloc))
     }
 }
 

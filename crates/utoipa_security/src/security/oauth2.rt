@@ -4,11 +4,13 @@ ghost use Rattle.std.specs.Iterator.{IsFinite};
 ghost use Rattle.utoipa_base.specs.Kinds.{named, oauth2_scheme};
 
 use crate::security::flows::{Flow, keyed_flows};
-use crate::security::row_lists::{clone_rows, read_rows, write_rows};
+use crate::security::row_lists::{clone_table, from_fields, row_values};
 use serde_json::Value;
 use std::alloc::{AllocError, Global};
 use std::collections::BTreeMap;
-use utoipa_base::{Deprecated, Extensions, ReadFault, Readings, Tree};
+use utoipa_base::{
+    Deprecated, Extensions, ReadFault, Readings, Tree, read_table, row_names, write_table,
+};
 
 // The rows of a scheme by OAuth 2, in the order of its member table: mark, member, field.
 macro_rules! oauth2_rows {
@@ -110,14 +112,18 @@ impl Tree for OAuth2 {
         tree: &Value,
         readings: &mut Readings,
     ) -> Result<OAuth2, ReadFault> {
-        oauth2_rows!(read_rows!(OAuth2, alloc, tree, readings))
+        let names = oauth2_rows!(row_names!());
+        let (fields, extensions) = read_table(alloc, tree, "OAuth2", names, readings)?;
+        Ok(oauth2_rows!(from_fields!(OAuth2, fields, extensions)))
     }
 
     fn to_value(&self, alloc: Global) -> Result<Value, AllocError> {
-        oauth2_rows!(write_rows!(self, alloc))
+        let names = oauth2_rows!(row_names!());
+        let values = oauth2_rows!(row_values!(self));
+        write_table(alloc, names, &values, &self.extensions)
     }
 
     fn try_clone(&self, alloc: Global) -> Result<OAuth2, AllocError> {
-        oauth2_rows!(clone_rows!(OAuth2, self, alloc))
+        oauth2_rows!(clone_table!(OAuth2, self, alloc))
     }
 }

@@ -2,10 +2,12 @@
 ghost use Rattle.std.specs.Prelude.{◌≡◌, None, Some, refl, false};
 ghost use Rattle.utoipa_base.specs.Kinds.{named, open_id_connect_scheme};
 
-use crate::security::row_lists::{clone_rows, read_rows, write_rows};
 use serde_json::Value;
 use std::alloc::{AllocError, Global};
-use utoipa_base::{Deprecated, Extensions, ReadFault, Readings, Tree};
+use utoipa_base::{
+    Deprecated, Extensions, ReadFault, Readings, Tree, clone_table, from_fields, read_table,
+    row_names, row_values, write_table,
+};
 
 // The rows of a scheme by OpenID Connect, in the order of its member table: mark, member, field.
 macro_rules! open_id_connect_rows {
@@ -82,14 +84,18 @@ impl Tree for OpenIdConnect {
         tree: &Value,
         readings: &mut Readings,
     ) -> Result<OpenIdConnect, ReadFault> {
-        open_id_connect_rows!(read_rows!(OpenIdConnect, alloc, tree, readings))
+        let names = open_id_connect_rows!(row_names!());
+        let (fields, extensions) = read_table(alloc, tree, "OpenIdConnect", names, readings)?;
+        Ok(open_id_connect_rows!(from_fields!(OpenIdConnect, fields, extensions)))
     }
 
     fn to_value(&self, alloc: Global) -> Result<Value, AllocError> {
-        open_id_connect_rows!(write_rows!(self, alloc))
+        let names = open_id_connect_rows!(row_names!());
+        let values = open_id_connect_rows!(row_values!(self));
+        write_table(alloc, names, &values, &self.extensions)
     }
 
     fn try_clone(&self, alloc: Global) -> Result<OpenIdConnect, AllocError> {
-        open_id_connect_rows!(clone_rows!(OpenIdConnect, self, alloc))
+        open_id_connect_rows!(clone_table!(OpenIdConnect, self, alloc))
     }
 }

@@ -1,7 +1,7 @@
-//! Lists of rows with two marks beside those of utoipa_base: `scopes` and `flows`, of required members that are read as
-//! types of this crate.
+//! Lists of rows with two marks beside those of utoipa_base: `scopes` and `flows`, of required members that are read and
+//! written as types of this crate. A list that has neither is taken by the macros of utoipa_base.
 
-/// The fields that rows are read as, one after the other.
+/// The pattern of the fields that rows are read as.
 macro_rules! row_fields {
     () => { () };
     (scopes $field:ident, $($rest:tt)*) => {
@@ -18,12 +18,29 @@ macro_rules! row_fields {
     };
 }
 
-/// The function that writes a row of a mark.
-macro_rules! row_writer {
-    (scopes) => { $crate::security::scopes::write_scopes };
-    (flows) => { $crate::security::flows::write_flows };
-    (required) => { utoipa_base::write_required };
-    (optional) => { utoipa_base::write_option };
+/// A value of the type, from the fields that were read and its extensions.
+macro_rules! from_fields {
+    ($type:ident, $fields:expr, $extensions:expr; $($mark:ident $name:literal $field:ident,)*) => {{
+        let $crate::security::row_lists::row_fields!($($mark $field,)*) = $fields;
+        $type { $($field,)* extensions: $extensions }
+    }};
+}
+
+/// The fields of a value, to be written one after the other.
+macro_rules! row_values {
+    ($self:expr;) => { () };
+    ($self:expr; scopes $name:literal $field:ident, $($rest:tt)*) => {
+        ($crate::security::scopes::ScopesValue(&$self.$field), $crate::security::row_lists::row_values!($self; $($rest)*))
+    };
+    ($self:expr; flows $name:literal $field:ident, $($rest:tt)*) => {
+        ($crate::security::flows::FlowsValue(&$self.$field), $crate::security::row_lists::row_values!($self; $($rest)*))
+    };
+    ($self:expr; required $name:literal $field:ident, $($rest:tt)*) => {
+        (utoipa_base::table::RequiredValue(&$self.$field), $crate::security::row_lists::row_values!($self; $($rest)*))
+    };
+    ($self:expr; optional $name:literal $field:ident, $($rest:tt)*) => {
+        (utoipa_base::table::OptionalValue(&$self.$field), $crate::security::row_lists::row_values!($self; $($rest)*))
+    };
 }
 
 /// A copy of a row's field.
@@ -33,26 +50,8 @@ macro_rules! row_copy {
     ($mark:ident, $alloc:expr, $value:expr) => { utoipa_base::row_copy!($mark, $alloc, $value) };
 }
 
-/// The body of `read_plain` of a type with extensions.
-macro_rules! read_rows {
-    ($type:ident, $alloc:expr, $tree:expr, $readings:expr; $($mark:ident $name:literal $field:ident,)*) => {{
-        let (fields, extensions) = utoipa_base::table::read_table($alloc, $tree, stringify!($type), &[$($name),*], $readings)?;
-        let $crate::security::row_lists::row_fields!($($mark $field,)*) = fields;
-        Ok($type { $($field,)* extensions })
-    }};
-}
-
-/// The body of `to_value` of a type with extensions.
-macro_rules! write_rows {
-    ($self:expr, $alloc:expr; $($mark:ident $name:literal $field:ident,)*) => {{
-        let mut members = utoipa_base::written_extensions($alloc, &$self.extensions)?;
-        $($crate::security::row_lists::row_writer!($mark)(&mut members, $alloc, $name, &$self.$field)?;)*
-        Ok(serde_json::Value::Object(members))
-    }};
-}
-
 /// The body of `try_clone` of a type with extensions.
-macro_rules! clone_rows {
+macro_rules! clone_table {
     ($type:ident, $self:expr, $alloc:expr; $($mark:ident $name:literal $field:ident,)*) => {
         Ok($type {
             $($field: $crate::security::row_lists::row_copy!($mark, $alloc, $self.$field),)*
@@ -61,9 +60,8 @@ macro_rules! clone_rows {
     };
 }
 
-pub(crate) use clone_rows;
-pub(crate) use read_rows;
+pub(crate) use clone_table;
+pub(crate) use from_fields;
 pub(crate) use row_copy;
 pub(crate) use row_fields;
-pub(crate) use row_writer;
-pub(crate) use write_rows;
+pub(crate) use row_values;

@@ -16,11 +16,14 @@ use crate::security::open_id_connect::OpenIdConnect;
 use crate::security::scheme_type::{read_type, with_type};
 use serde_json::Value;
 use std::alloc::{AllocError, Global};
-use utoipa_base::table::{OptionalField, read_table};
+use utoipa_base::table::{OptionalField, OptionalValue};
 use utoipa_base::{
     Deprecated, Extensions, Place, ReadFault, Readings, Tree, clone_extensions, clone_option,
-    write_option, written_extensions,
+    read_table, write_table,
 };
+
+// The members of a scheme of the type `mutualTLS`, in the order of its member table.
+const MUTUAL_TLS_NAMES: [&str; 2] = ["description", "deprecated"];
 
 /// A Security Scheme Object (OpenAPI 3.1, section 4.8.27), by its member `type`.
 #[derive(Debug, Drop)]
@@ -76,9 +79,9 @@ fn read_mutual_tls(
     ensures reads { Reads (read (named mutual_tls_scheme) (view tree.now)) scheme_object result
         readings.old readings.new (values (view tree.now)) }
 {
-    let names = ["description", "deprecated"];
-    let (rows, extensions) = read_table(alloc, tree, "SecurityScheme", &names, readings)?;
-    let (OptionalField(description), (OptionalField(deprecated), ())) = rows;
+    let names = &MUTUAL_TLS_NAMES;
+    let (fields, extensions) = read_table(alloc, tree, "SecurityScheme", names, readings)?;
+    let (OptionalField(description), (OptionalField(deprecated), ())) = fields;
     Ok(SecurityScheme::MutualTls {
         description,
         deprecated,
@@ -94,10 +97,8 @@ fn mutual_tls_value(
 ) -> Result<Value, AllocError>
     ensures { IfOk result (λ v. view v ≡ write (mutual_tls_doc description.now deprecated.now extensions.now)) }
 {
-    let mut members = written_extensions(alloc, extensions)?;
-    write_option(&mut members, alloc, "description", description)?;
-    write_option(&mut members, alloc, "deprecated", deprecated)?;
-    Ok(Value::Object(members))
+    let values = (OptionalValue(description), (OptionalValue(deprecated), ()));
+    write_table(alloc, &MUTUAL_TLS_NAMES, &values, extensions)
 }
 
 // The members of a scheme of one type.

@@ -1,8 +1,6 @@
 //! The scopes of an OAuth flow.
-ghost use Rattle.std.specs.Prelude.{◌≡◌, [], ◌∷◌, refl, IfOk, OnOk, OnErr};
+ghost use Rattle.std.specs.Prelude.{◌≡◌, [], ◌∷◌, refl, IfOk};
 ghost use Rattle.std.specs.Iterator.{IsFinite, Drains};
-ghost use Rattle.serde_json.specs.View.{members_view};
-ghost use Rattle.utoipa_base.specs.Fields.{put_field};
 ghost use Rattle.utoipa_base.specs.Kinds.{named, scopes_object, text, map_of, required};
 ghost use Rattle.utoipa_base.specs.Tables.{row};
 ghost use Rattle.utoipa_security.specs.Scopes.{scopes_member};
@@ -10,8 +8,21 @@ ghost use Rattle.utoipa_security.specs.Scopes.{scopes_member};
 use serde_json::{Map, Value};
 use std::alloc::{AllocError, Global};
 use std::collections::BTreeMap;
-use utoipa_base::table::{RequiredField, RowField, read_table_alone};
-use utoipa_base::{ReadFault, Readings, Tree, row_required, write_required};
+use utoipa_base::table::{RowField, RowValue};
+use utoipa_base::{
+    ReadFault, Readings, Tree, from_fields_alone, read_table_alone, row_names, row_required,
+    row_values, write_required, write_table_alone,
+};
+
+// The row of scopes by themselves: mark, member, field.
+macro_rules! scopes_rows {
+    ($lines:ident!($($arguments:tt)*)) => {
+        $lines! {
+            $($arguments)*;
+            required "scopes" scopes,
+        }
+    };
+}
 
 /// The scopes of an OAuth Flow Object (OpenAPI 3.1, section 4.8.29), each by its name with a description: the member
 /// `scopes`.
@@ -75,15 +86,15 @@ impl Tree for Scopes {
         tree: &Value,
         readings: &mut Readings,
     ) -> Result<Scopes, ReadFault> {
-        let fields = read_table_alone(alloc, tree, "Scopes", &["scopes"], readings)?;
-        let (RequiredField(scopes), ()) = fields;
-        Ok(Scopes { scopes })
+        let names = scopes_rows!(row_names!());
+        let fields = read_table_alone(alloc, tree, "Scopes", names, readings)?;
+        Ok(scopes_rows!(from_fields_alone!(Scopes, fields)))
     }
 
     fn to_value(&self, alloc: Global) -> Result<Value, AllocError> {
-        let mut members = Map::new(alloc);
-        write_required(&mut members, alloc, "scopes", &self.scopes)?;
-        Ok(Value::Object(members))
+        let names = scopes_rows!(row_names!());
+        let values = scopes_rows!(row_values!(self));
+        write_table_alone(alloc, names, &values)
     }
 
     fn try_clone(&self, alloc: Global) -> Result<Scopes, AllocError> {
@@ -111,18 +122,23 @@ impl RowField for ScopesField {
     }
 }
 
-/// Writes the scopes of a flow. Fails where memory runs out; then the members are as they were.
-pub(crate) fn write_scopes(
-    members: &mut Map<String, Value>,
-    alloc: Global,
-    name: &'static str,
-    scopes: &Scopes,
-) -> Result<(), AllocError>
-    ensures ok { OnOk result (members_view members.new.entries
-        ≡ put_field (row name.now required (map_of text)) (scopes_member scopes.now) (members_view members.old.entries)) }
-    ensures err { OnErr result (members.new.entries ≡ members.old.entries) }
-{
-    write_required(members, alloc, name, &scopes.scopes)
+/// The scopes of a flow, to be written: a required member of it.
+#[derive(Clone, Copy)]
+pub(crate) struct ScopesValue<'a>(pub(crate) &'a Scopes);
+
+impl<'a> RowValue for ScopesValue<'a> {
+    ghost line = { λ name. row name required (map_of text) };
+
+    ghost doc = { λ v. scopes_member v.0.now };
+
+    fn write(
+        &self,
+        members: &mut Map<String, Value>,
+        alloc: Global,
+        name: &str,
+    ) -> Result<(), AllocError> {
+        write_required(members, alloc, name, &self.0.scopes)
+    }
 }
 
 /// Equal scopes. Fails where memory runs out.

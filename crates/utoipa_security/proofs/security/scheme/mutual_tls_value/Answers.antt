@@ -1,10 +1,6 @@
+use Rattle.std.proofs.Common.{refl}
 use Rattle.utoipa_base.specs.Kinds.{mutual_tls_scheme}
-use Rattle.utoipa_base.proofs.ByRows.{table_written, rows-cons, rows-nil}
 use Rattle.utoipa_security.proofs.security.scheme.mutual_tls_value.Goals as goal
 
 pub returns : goal.returns
-returns c =
-    table_written mutual_tls_scheme _ _ _ _ c.in_ok-members.ensures
-    (rows-cons _ _ _ _ _ _ _ c.in_ok-write_option.ensures.ok
-    (rows-cons _ _ _ _ _ _ _ c.in_ok-write_option-2.ensures.ok
-    (rows-nil _)))
+returns c = c.write_table.ensures mutual_tls_scheme refl

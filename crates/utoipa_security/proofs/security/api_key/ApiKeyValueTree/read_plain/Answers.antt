@@ -1,3 +1,4 @@
+-- Written by tools/answers.py utoipa_security security/api_key ApiKeyValue
 use Rattle.std.proofs.Common.{refl, arith}
 use Rattle.utoipa_base.specs.Kinds.{api_key_scheme}
 use Rattle.utoipa_base.proofs.RowLists.{passes_reads, reads_as}

@@ -1,12 +1,7 @@
+-- Written by tools/answers.py utoipa_security security/flow DeviceAuthorization
+use Rattle.std.proofs.Common.{refl}
 use Rattle.utoipa_base.specs.Kinds.{device_authorization_flow}
-use Rattle.utoipa_base.proofs.ByRows.{table_written, rows-cons, rows-nil}
 use Rattle.utoipa_security.proofs.security.flow.DeviceAuthorizationTree.to_value.Goals as goal
 
 pub returns : goal.returns
-returns c =
-    table_written device_authorization_flow _ _ _ _ c.in_ok-members.ensures
-    (rows-cons _ _ _ _ _ _ _ c.in_ok-write_required.ensures.ok
-    (rows-cons _ _ _ _ _ _ _ c.in_ok-write_required-2.ensures.ok
-    (rows-cons _ _ _ _ _ _ _ c.in_ok-write_option.ensures.ok
-    (rows-cons _ _ _ _ _ _ _ c.in_ok-write_scopes.ensures.ok
-    (rows-nil _)))))
+returns c = c.write_table.ensures device_authorization_flow refl

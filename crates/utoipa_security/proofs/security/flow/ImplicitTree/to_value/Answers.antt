@@ -1,11 +1,7 @@
+-- Written by tools/answers.py utoipa_security security/flow Implicit
+use Rattle.std.proofs.Common.{refl}
 use Rattle.utoipa_base.specs.Kinds.{implicit_flow}
-use Rattle.utoipa_base.proofs.ByRows.{table_written, rows-cons, rows-nil}
 use Rattle.utoipa_security.proofs.security.flow.ImplicitTree.to_value.Goals as goal
 
 pub returns : goal.returns
-returns c =
-    table_written implicit_flow _ _ _ _ c.in_ok-members.ensures
-    (rows-cons _ _ _ _ _ _ _ c.in_ok-write_required.ensures.ok
-    (rows-cons _ _ _ _ _ _ _ c.in_ok-write_option.ensures.ok
-    (rows-cons _ _ _ _ _ _ _ c.in_ok-write_scopes.ensures.ok
-    (rows-nil _))))
+returns c = c.write_table.ensures implicit_flow refl

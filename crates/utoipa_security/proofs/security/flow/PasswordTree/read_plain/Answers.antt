@@ -1,3 +1,4 @@
+-- Written by tools/answers.py utoipa_security security/flow Password
 use Rattle.std.proofs.Common.{refl, arith}
 use Rattle.utoipa_base.specs.Kinds.{password_flow}
 use Rattle.utoipa_base.proofs.RowLists.{passes_reads, reads_as}

@@ -1,3 +1,4 @@
+-- Written by tools/answers.py utoipa_security security/oauth2 OAuth2
 use Rattle.std.proofs.Common.{refl, arith}
 use Rattle.utoipa_base.specs.Kinds.{oauth2_scheme}
 use Rattle.utoipa_base.proofs.RowLists.{passes_reads, reads_as}

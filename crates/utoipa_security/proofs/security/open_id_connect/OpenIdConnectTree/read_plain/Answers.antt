@@ -1,3 +1,4 @@
+-- Written by tools/answers.py utoipa_security security/open_id_connect OpenIdConnect
 use Rattle.std.proofs.Common.{refl, arith}
 use Rattle.utoipa_base.specs.Kinds.{open_id_connect_scheme}
 use Rattle.utoipa_base.proofs.RowLists.{passes_reads, reads_as}

@@ -1,11 +1,7 @@
+-- Written by tools/answers.py utoipa_security security/open_id_connect OpenIdConnect
+use Rattle.std.proofs.Common.{refl}
 use Rattle.utoipa_base.specs.Kinds.{open_id_connect_scheme}
-use Rattle.utoipa_base.proofs.ByRows.{table_written, rows-cons, rows-nil}
 use Rattle.utoipa_security.proofs.security.open_id_connect.OpenIdConnectTree.to_value.Goals as goal
 
 pub returns : goal.returns
-returns c =
-    table_written open_id_connect_scheme _ _ _ _ c.in_ok-members.ensures
-    (rows-cons _ _ _ _ _ _ _ c.in_ok-write_required.ensures.ok
-    (rows-cons _ _ _ _ _ _ _ c.in_ok-write_option.ensures.ok
-    (rows-cons _ _ _ _ _ _ _ c.in_ok-write_option-2.ensures.ok
-    (rows-nil _))))
+returns c = c.write_table.ensures open_id_connect_scheme refl
