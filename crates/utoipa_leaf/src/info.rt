@@ -5,7 +5,10 @@ ghost use Rattle.utoipa_base.specs.Kinds.{named, info_object, contact_object, li
 use json::Writer;
 use serde_json::Value;
 use std::alloc::{AllocError, Global};
-use utoipa_base::{Extensions, ReadFault, Readings, Tree, clone_table, from_fields, read_table, row_names, row_values, write_table, print_table};
+use utoipa_base::{
+    Extensions, ReadFault, Readings, Tree, clone_table, from_fields, print_table, read_table,
+    row_names, row_values, write_table,
+};
 
 // The rows of an info object, in the order of its member table: mark, member, field.
 macro_rules! info_rows {
@@ -200,7 +203,9 @@ impl License {
     {
         LicenseBuilder::new(alloc)
     }
-}impl Tree for Contact {
+}
+
+impl Tree for Contact {
     ghost use Rattle.utoipa_leaf.specs.Info.{contact_doc, contact_of_kind};
 
     ghost kind = { named contact_object };
@@ -235,7 +240,8 @@ impl License {
         contact_rows!(clone_table!(Contact, self, alloc))
     }
 }
-}impl Tree for License {
+
+impl Tree for License {
     ghost use Rattle.utoipa_leaf.specs.Info.{license_doc, license_of_kind};
 
     ghost kind = { named license_object };
@@ -269,7 +275,6 @@ impl License {
     fn try_clone(&self, alloc: Global) -> Result<License, AllocError> {
         license_rows!(clone_table!(License, self, alloc))
     }
-}
 }
 
 impl Tree for Info {

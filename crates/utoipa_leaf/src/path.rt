@@ -5,7 +5,7 @@ ghost use Rattle.utoipa_base.specs.Kinds.{word_of, http_method, parameter_in, pa
 use json::Writer;
 use serde_json::Value;
 use std::alloc::{AllocError, Global};
-use utoipa_base::{ReadFault, Readings, Tree, Word, read_word, write_word, print_word};
+use utoipa_base::{ReadFault, Readings, Tree, Word, print_word, read_word, write_word};
 
 /// The HTTP method of an operation: the field of a Path Item Object (OpenAPI 3.1, section 4.8.9) under which it stands.
 ///
@@ -71,7 +71,8 @@ impl Word for HttpMethod {
     }
 }
 
-#[tactic(auto, using(utoipa_base::proofs::ByWords::impl Tree for HttpMethod {
+#[tactic(auto, using(utoipa_base::proofs::ByWords::by_words))]
+impl Tree for HttpMethod {
     ghost use Rattle.utoipa_leaf.specs.Path.{http_method_doc, http_method_of_kind};
 
     ghost kind = { word_of http_method };
@@ -98,9 +99,6 @@ impl Word for HttpMethod {
 
     fn try_clone(&self, _alloc: Global) -> Result<HttpMethod, AllocError> {
         Ok(*self)
-    }
-}
-lf)
     }
 }
 
@@ -155,7 +153,8 @@ impl Word for ParameterIn {
     }
 }
 
-#[tactic(auto, using(utoipa_base::proofs::ByWords::impl Tree for ParameterIn {
+#[tactic(auto, using(utoipa_base::proofs::ByWords::by_words))]
+impl Tree for ParameterIn {
     ghost use Rattle.utoipa_leaf.specs.Path.{parameter_in_doc, parameter_in_of_kind};
 
     ghost kind = { word_of parameter_in };
@@ -182,9 +181,6 @@ impl Word for ParameterIn {
 
     fn try_clone(&self, _alloc: Global) -> Result<ParameterIn, AllocError> {
         Ok(*self)
-    }
-}
-lf)
     }
 }
 

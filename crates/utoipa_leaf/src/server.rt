@@ -8,7 +8,10 @@ use json::Writer;
 use serde_json::Value;
 use std::alloc::{AllocError, Global};
 use std::collections::BTreeMap;
-use utoipa_base::{Extensions, ReadFault, Readings, Same, Tree, clone_table, from_fields, list_if_any, read_table, row_names, row_values, same_table, table_has_fraction, write_table, print_table};
+use utoipa_base::{
+    Extensions, ReadFault, Readings, Same, Tree, clone_table, from_fields, list_if_any,
+    print_table, read_table, row_names, row_values, same_table, table_has_fraction, write_table,
+};
 
 // The rows of a server, in the order of its member table: mark, member, field.
 macro_rules! server_rows {
@@ -157,7 +160,9 @@ impl ServerVariable {
     {
         server_variable_rows!(same_table!(self, other))
     }
-}impl Tree for ServerVariable {
+}
+
+impl Tree for ServerVariable {
     ghost use Rattle.utoipa_leaf.specs.Server.{server_variable_doc, server_variable_of_kind};
 
     ghost kind = { named server_variable_object };
@@ -191,7 +196,6 @@ impl ServerVariable {
     fn try_clone(&self, alloc: Global) -> Result<ServerVariable, AllocError> {
         server_variable_rows!(clone_table!(ServerVariable, self, alloc))
     }
-}
 }
 
 impl Tree for Server {
