@@ -13,15 +13,15 @@ use Rattle.json.specs.Written.{Written, Writes}
 use Rattle.serde_json.specs.Data.{Data, string, object, Members, no_members, member, put}
 use Rattle.serde_json.specs.View.{view, members_view}
 use Rattle.serde_json.specs.Written.{has_float, members_have_float}
-use Rattle.utoipa_base.specs.Docs.{Doc, text_doc, flow_doc, tagged_doc, table_doc, Docs, no_docs, doc}
+use Rattle.utoipa_base.specs.Docs.{Doc, none_doc, some_doc, text_doc, flow_doc, tagged_doc, table_doc, Docs, no_docs, doc}
 use Rattle.utoipa_base.specs.Extensions.{members_or_none}
 use Rattle.utoipa_base.specs.InOrder.{Field, fields_by, is_less, is_greater, is_below, placed, insert, insert_all, in_order, tagged, object_parts, sorted_parts, IsObjectBy, member_unless, row_members, joined, names_before, names_after, starts_before, starts_with_name, first_member, later_members, among, rest_after, PrintsAmong, BeginsMember, EndsObject}
-use Rattle.utoipa_base.specs.Kinds.{Row, required, text}
+use Rattle.utoipa_base.specs.Kinds.{Kind, Row, required, optional, defaulted, text}
 use Rattle.utoipa_base.specs.Pending.{next_view}
 use Rattle.utoipa_base.specs.declared.pending.NextExtension.{NextExtension}
 use Rattle.utoipa_base.specs.Printed.{value_tokens, members_tokens, Adds, Prints, PrintsMembers}
 use Rattle.utoipa_base.specs.Tables.{table, row}
-use Rattle.utoipa_base.specs.Writing.{write, write_rows, left_out, put_row, put_unless, merge_member, merge_members, with_member}
+use Rattle.utoipa_base.specs.Writing.{write, write_rows, is_empty, left_out, put_row, put_unless, merge_member, merge_members, with_member}
 use Rattle.utoipa_base.proofs.BoolFacts.{and_first, and_second}
 use Rattle.utoipa_base.proofs.Tokens.{nothing_added, both_added, added_as, token_added, joined_added, tokens-joined, have_float-joined, tokens-object}
 
@@ -157,12 +157,12 @@ one_more_field (q ∷ qs) p ms = one_more_field qs p (put_row q.0 q.1 (write q.1
 -- ---- fields in their order
 
 -- the members of fields that are there
-abbrev pub there : List Field → Members
+unfoldable pub there : List Field → Members
 there [] = no_members
 there (p ∷ ps) = member_unless (left_out p.0.mark p.1) p.0.name (write p.1) (there ps)
 
 rows_there : (ds : Docs) (rs : List Row) → there (fields_by ds rs) ≡ row_members ds rs
-unfolding row_members
+unfolding there row_members
 rows_there no_docs rs = refl
 rows_there (doc d ds) [] = refl
 rows_there (doc d ds) (r ∷ rs) = ap (member_unless (left_out r.mark d) r.name (write d)) (rows_there ds rs)
@@ -182,6 +182,7 @@ put_before true k d l e ms h more = more
 put_before false k d l e ms h more = put_first k d l e ms h
 
 put_below : (k : List ℕ) (d : Data) (qs : List Field) → is_below k qs ≡ true → put k d (there qs) ≡ member k d (there qs)
+unfolding there
 put_below k d [] h = refl
 put_below k d (q ∷ qs) h =
     put_before _ k d q.0.name (write q.1) (there qs) (less_is _ (and_first _ (is_below k qs) h)) (put_below k d qs (and_second (is_less (slice_cmp nat_cmp k q.0.name)) _ h))
@@ -209,6 +210,7 @@ and_then_some f (Some x) y h = (x, refl, h)
 
 put_placed : (below later : Bool) (p q : Field) (qs : List Field) (more : Option (List Field)) (order : List Field) → is_below p.0.name (q ∷ qs) ≡ below → is_greater (slice_cmp nat_cmp p.0.name q.0.name) ≡ later
     → placed below later p q qs more ≡ Some order → ((r : List Field) → more ≡ Some r → put_row p.0 p.1 (write p.1) (there qs) ≡ there r) → put_row p.0 p.1 (write p.1) (there (q ∷ qs)) ≡ there order
+unfolding there
 put_placed true later p q qs more order is at h rest = put_unless_below (left_out p.0.mark p.1) p.0.name (write p.1) (q ∷ qs) is ∙ ap there (some_same _ _ h)
 put_placed false true p q qs more order is at h rest =
     let m = mapped (λ r. q ∷ r) more order h in
@@ -217,6 +219,7 @@ put_placed false true p q qs more order is at h rest =
 put_placed false false p q qs more order is at h rest = absurd cc
 
 put_inserted : (p : Field) (qs order : List Field) → insert p qs ≡ Some order → put_row p.0 p.1 (write p.1) (there qs) ≡ there order
+unfolding there
 put_inserted p [] order h = put_unless_below (left_out p.0.mark p.1) p.0.name (write p.1) [] refl ∙ ap there (some_same _ _ h)
 put_inserted p (q ∷ qs) order h = put_placed _ _ p q qs (insert p qs) order refl refl h (λ r e. put_inserted p qs r e)
 
@@ -242,15 +245,19 @@ parts_written (tagged_doc name word d) ps e h =
 parts_written (flow_doc d) ps e h = parts_written d ps e h
 parts_written d ps e h = absurd cc
 
--- the document is an object of some rows: it is written as their members that are there, with the extensions among them
-pub written_in_order : (d : Doc) (ds : Docs) (rs : List Row) (e : Option Members) → IsObjectBy d ds rs e → write d ≡ object (merge_members (row_members ds rs) (members_or_none e))
-written_in_order d ds rs e is =
-    let m = mapped sorted_parts (object_parts d) (Some (fields_by ds rs), e) is in
-    let order : in_order m.0.0 ≡ Some (fields_by ds rs) = ap (λ p. p.0) m.2 in
+nothing_there : there [] ≡ no_members
+unfolding there
+nothing_there = refl
+
+-- the document is an object of some fields: it is written as their members that are there, with the extensions among them
+pub written_in_order : (d : Doc) (ps : List Field) (e : Option Members) → option_map sorted_parts (object_parts d) ≡ Some (Some ps, e) → write d ≡ object (merge_members (there ps) (members_or_none e))
+written_in_order d ps e is =
+    let m = mapped sorted_parts (object_parts d) (Some ps, e) is in
+    let order : in_order m.0.0 ≡ Some ps = ap (λ p. p.0) m.2 in
     let same : m.0.1 ≡ e = ap (λ p. p.1) m.2 in
     parts_written d m.0.0 m.0.1 m.1 ∙ ap (λ x. object (put_fields m.0.0 (members_or_none x))) same
     ∙ ap object (fields_merged m.0.0 no_members (members_or_none e))
-    ∙ ap (λ ms. object (merge_members ms (members_or_none e))) (put_in_order m.0.0 [] (fields_by ds rs) order ∙ rows_there ds rs)
+    ∙ ap (λ ms. object (merge_members ms (members_or_none e))) (ap (put_fields m.0.0) (sym nothing_there) ∙ put_in_order m.0.0 [] ps order)
 
 -- ---- members among others
 
@@ -480,9 +487,58 @@ object_among (Ok u) ms es left old opened mid new begins inside ends =
     object_added (merge_members ms es) (among ms es) left old opened mid new whole begins inside.added ends
 object_among (Err e) ms es left old opened mid new begins inside ends = tt
 
+-- ---- an object by its fields in their order
+
+-- the fields of some rows
+pub fields_among : (ds : Docs) (rs : List Row) (es left : Members) (old new : Written) → PrintsAmong (row_members ds rs) es left old new → PrintsAmong (there (fields_by ds rs)) es left old new
+fields_among ds rs es left old new prints = subst (λ ms. PrintsAmong ms es left old new) (sym (rows_there ds rs)) prints
+
+there-append_at : (b : Bool) (k : List ℕ) (d : Data) (ms ns all : Members) → all ≡ joined ms ns → member_unless b k d all ≡ joined (member_unless b k d ms) ns
+there-append_at true k d ms ns all is = is
+there-append_at false k d ms ns all is = ap (member k d) is
+
+there-append : (ps qs : List Field) → there (ps ++ qs) ≡ joined (there ps) (there qs)
+unfolding there
+there-append [] qs = refl
+there-append (p ∷ ps) qs = there-append_at (left_out p.0.mark p.1) p.0.name (write p.1) (there ps) (there qs) (there (ps ++ qs)) (there-append ps qs)
+
+-- the fields of some rows, and those after them
+pub then_fields : (ps qs : List Field) (es mid left : Members) (old now new : Written) → PrintsAmong (there ps) es mid old now → PrintsAmong (there qs) mid left now new → PrintsAmong (there (ps ++ qs)) es left old new
+then_fields ps qs es mid left old now new first later = subst (λ ms. PrintsAmong ms es left old new) (sym (there-append ps qs)) (both_among (there ps) (there qs) es mid left old now new first later)
+
+-- an object by its fields in their order, among its extensions
+pub object_by_fields : {E : Type 0} (r : Result (Unit {0}) E) (d : Doc) (ps : List Field) (e : Option Members) (es left : Members) (old opened mid new : Written) → option_map sorted_parts (object_parts d) ≡ Some (Some ps, e) → es ≡ members_or_none e
+    → Adds false (begin_object ∷ []) old opened → PrintsAmong (there ps) es left opened mid → OnOk r (EndsObject left mid new) → OnOk r (Prints (write d) old new)
+object_by_fields r d ps e es left old opened mid new is others begins inside ends =
+    let written : object (merge_members (there ps) es) ≡ write d = ap (λ x. object (merge_members (there ps) x)) others ∙ sym (written_in_order d ps e is) in
+    on_ok_weaker r (subst (λ t. Prints t old new) written) (object_among r (there ps) es left old opened mid new begins inside ends)
+
 -- an object by its rows in their order, among its extensions
 pub object_by_rows : {E : Type 0} (r : Result (Unit {0}) E) (d : Doc) (ds : Docs) (rs : List Row) (e : Option Members) (es left : Members) (old opened mid new : Written) → IsObjectBy d ds rs e → es ≡ members_or_none e
     → Adds false (begin_object ∷ []) old opened → PrintsAmong (row_members ds rs) es left opened mid → OnOk r (EndsObject left mid new) → OnOk r (Prints (write d) old new)
 object_by_rows r d ds rs e es left old opened mid new is others begins inside ends =
-    let written : object (merge_members (row_members ds rs) es) ≡ write d = ap (λ x. object (merge_members (row_members ds rs) x)) others ∙ sym (written_in_order d ds rs e is) in
-    on_ok_weaker r (subst (λ t. Prints t old new) written) (object_among r (row_members ds rs) es left old opened mid new begins inside ends)
+    object_by_fields r d (fields_by ds rs) e es left old opened mid new is others begins (fields_among ds rs es left opened mid inside) ends
+
+-- ---- a member by its mark
+
+-- a required member
+pub required_among : (name : List ℕ) (k : Kind) (d : Doc) (es left : Members) (old named new : Written) → BeginsMember name es left old named → Prints (write d) named new → PrintsAmong (row_members (doc d no_docs) (row name required k ∷ [])) es left old new
+required_among name k d es left old named new begins prints = row_there (row name required k) d name es left old named new refl refl begins prints
+
+-- an optional member that is there
+pub optional_among : (name : List ℕ) (k : Kind) (d : Doc) (es left : Members) (old named new : Written) → BeginsMember name es left old named → Prints (write d) named new → PrintsAmong (row_members (doc (some_doc d) no_docs) (row name optional k ∷ [])) es left old new
+unfolding write
+optional_among name k d es left old named new begins prints = row_there (row name optional k) (some_doc d) name es left old named new refl refl begins prints
+
+-- an optional member that is absent
+pub optional_absent : (name : List ℕ) (k : Kind) (es : Members) (w : Written) → PrintsAmong (row_members (doc none_doc no_docs) (row name optional k ∷ [])) es es w w
+optional_absent name k es w = row_left_out (row name optional k) none_doc es w refl
+
+-- a defaulted member that is not empty
+pub defaulted_among : (name : List ℕ) (k : Kind) (d : Doc) (es left : Members) (old named new : Written) → is_empty d ≡ false → BeginsMember name es left old named → Prints (write d) named new
+    → PrintsAmong (row_members (doc d no_docs) (row name defaulted k ∷ [])) es left old new
+defaulted_among name k d es left old named new there begins prints = row_there (row name defaulted k) d name es left old named new there refl begins prints
+
+-- a defaulted member that is empty
+pub defaulted_absent : (name : List ℕ) (k : Kind) (d : Doc) (es : Members) (w : Written) → is_empty d ≡ true → PrintsAmong (row_members (doc d no_docs) (row name defaulted k ∷ [])) es es w w
+defaulted_absent name k d es w empty = row_left_out (row name defaulted k) d es w empty

@@ -1,5 +1,5 @@
 -- Tokens added to a writer, and those of trees, part by part.
-use Rattle.std.proofs.Common.{◌≡◌, ◌<◌, ◌≤◌, ◌+◌, ℕ, ℤ, pos, negsuc, length, take, get_or, arith, List, [], ◌∷◌, ◌++◌, Bool, true, false, ◌||◌, map, decimal, Option, Some, None, refl, sym, ap, ◌∙◌, append_assoc, append-nil, String, Global, string_bytes, Result, Ok, Err, OnOk}
+use Rattle.std.proofs.Common.{◌≡◌, ◌<◌, ◌≤◌, ◌+◌, ℕ, ℤ, pos, negsuc, length, take, get_or, subst, arith, List, [], ◌∷◌, ◌++◌, Bool, true, false, ◌||◌, map, decimal, Option, Some, None, refl, sym, ap, ◌∙◌, append_assoc, append-nil, String, Global, string_bytes, Result, Ok, Err, OnOk}
 use Rattle.std.proofs.Math.Bool.{or-false}
 use Rattle.std.proofs.lemmas.Bool.{or_parts}
 use Rattle.std.proofs.lemmas.Grind.{common_steps}
@@ -57,6 +57,11 @@ one_token d t old new is added = record { before = added.before; tokens = λ h. 
 pub token_printed : {E : Type 0} (r : Result (Unit {0}) E) (d : Data) (t : Token) (old new : Written) → value_tokens d ≡ t ∷ [] → Writes r old new t → OnOk r (Prints d old new)
 token_printed (Ok u) d t old new is wrote = one_token d t old new is (token_added (Ok u) old new t wrote)
 token_printed (Err e) d t old new is wrote = tt
+
+-- a tree that was printed, by another name
+pub printed_as : {E : Type 0} (r : Result (Unit {0}) E) (d e : Data) (old new : Written) → d ≡ e → OnOk r (Prints d old new) → OnOk r (Prints e old new)
+printed_as (Ok u) d e old new same prints = subst (λ t. Prints t old new) same prints
+printed_as (Err x) d e old new same prints = tt
 
 -- the text of the tokens
 pub text_of_tokens : (d : Data) → print (value_tokens d) ≡ compact_text d
