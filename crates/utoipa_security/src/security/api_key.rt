@@ -221,11 +221,8 @@ impl Tree for ApiKey {
     }
 
     fn to_value(&self, alloc: Global) -> Result<Value, AllocError> {
-        match self {
-            ApiKey::Header(value) => with_type(alloc, "in", "header", value.to_value(alloc)?),
-            ApiKey::Query(value) => with_type(alloc, "in", "query", value.to_value(alloc)?),
-            ApiKey::Cookie(value) => with_type(alloc, "in", "cookie", value.to_value(alloc)?),
-        }
+        let (place, value) = self.place_and_value();
+        with_type(alloc, "in", place, value.to_value(alloc)?)
     }
 
     fn print(&self, alloc: Global, out: &mut Writer) -> Result<(), AllocError> {

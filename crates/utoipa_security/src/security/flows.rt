@@ -240,8 +240,8 @@ fn flows_value(alloc: Global, flows: &BTreeMap<String, Flow>) -> Result<Value, A
 // Prints the flows under their keys. Fails where memory runs out; then some of them may have been printed.
 fn print_flows(
     alloc: Global,
-    flows: &BTreeMap<String, Flow>,
     out: &mut Writer,
+    flows: &BTreeMap<String, Flow>,
 ) -> Result<(), AllocError>
     ensures { OnOk result (Prints (write (flows_doc flows.now)) out.old out.new) }
 {
@@ -279,7 +279,7 @@ impl<'a> RowValue for FlowsValue<'a> {
     }
 
     fn print(&self, alloc: Global, out: &mut Writer) -> Result<(), AllocError> {
-        print_flows(alloc, self.0, out)
+        print_flows(alloc, out, self.0)
     }
 }
 

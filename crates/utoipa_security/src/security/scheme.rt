@@ -112,7 +112,8 @@ fn print_mutual_tls(
     deprecated: &Option<Deprecated>,
     extensions: &Option<Extensions>,
 ) -> Result<(), AllocError>
-    ensures { OnOk result (Prints (write (tagged_doc (codes "type") (codes "mutualTLS") (mutual_tls_doc description.now deprecated.now extensions.now))) out.old out.new) }
+    ensures { OnOk result (Prints (write (tagged_doc (codes "type") (codes "mutualTLS")
+        (mutual_tls_doc description.now deprecated.now extensions.now))) out.old out.new) }
 {
     let names = &["deprecated", "description", "type"];
     let last = (TypeValue("mutualTLS"), ());
