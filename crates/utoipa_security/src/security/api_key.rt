@@ -1,16 +1,20 @@
 //! Schemes whose key is sent in a header, the query or a cookie.
-ghost use Rattle.std.specs.Prelude.{◌≡◌, None, Some, codes, refl, false};
+ghost use Rattle.std.specs.Prelude.{◌≡◌, None, Some, codes, refl, false, OnOk};
 ghost use Rattle.utoipa_base.specs.Docs.{tagged_doc};
 ghost use Rattle.utoipa_base.specs.Kinds.{named, api_key_scheme, api_key};
+ghost use Rattle.utoipa_base.specs.Printed.{Prints};
 ghost use Rattle.utoipa_base.specs.Vocabularies.{with_text};
+ghost use Rattle.utoipa_base.specs.Writing.{write};
 ghost use Rattle.utoipa_security.specs.ApiKey.{api_key_value_doc, api_key_doc, api_key_of_kind, key_place_text, every_key_place};
 
+use crate::security::row_lists::row_values;
 use crate::security::scheme_type::{read_type, with_type};
+use json::Writer;
 use serde_json::Value;
 use std::alloc::{AllocError, Global};
 use utoipa_base::{
-    Deprecated, Extensions, ReadFault, Readings, Tree, clone_table, from_fields, read_table,
-    row_names, row_values, write_table,
+    Deprecated, Extensions, ReadFault, Readings, Tree, clone_table, from_fields, print_table,
+    read_table, row_names, write_table,
 };
 
 // The rows of an API key, in the order of its member table: mark, member, field.
@@ -21,6 +25,20 @@ macro_rules! api_key_rows {
             required "name" name,
             optional "description" description,
             optional "deprecated" deprecated,
+        }
+    };
+}
+
+// The same, in the order of the members' names, with rows that come before the name and rows that come last.
+macro_rules! api_key_rows_by_name {
+    ($lines:ident!($($arguments:tt)*) [$($before_name:tt)*] $($last:tt)*) => {
+        $lines! {
+            $($arguments)*;
+            optional "deprecated" deprecated,
+            optional "description" description,
+            $($before_name)*
+            required "name" name,
+            $($last)*
         }
     };
 }
@@ -99,6 +117,12 @@ impl Tree for ApiKeyValue {
         write_table(alloc, names, &values, &self.extensions)
     }
 
+    fn print(&self, alloc: Global, out: &mut Writer) -> Result<(), AllocError> {
+        let names = api_key_rows_by_name!(row_names!() []);
+        let values = api_key_rows_by_name!(row_values!(self) []);
+        print_table(alloc, out, names, &values, &self.extensions)
+    }
+
     fn try_clone(&self, alloc: Global) -> Result<ApiKeyValue, AllocError> {
         api_key_rows!(clone_table!(ApiKeyValue, self, alloc))
     }
@@ -114,6 +138,35 @@ pub enum ApiKey {
     Query(ApiKeyValue),
     /// `cookie`: The key is sent in a cookie.
     Cookie(ApiKeyValue),
+}
+
+impl ApiKey {
+    // The word of the place, and the key itself.
+    fn place_and_value(&self) -> (&'static str, &ApiKeyValue)
+        ensures { api_key_doc self.now ≡ tagged_doc (codes "in") result.0.now (api_key_value_doc result.1.now) }
+    {
+        match self {
+            ApiKey::Header(value) => ("header", value),
+            ApiKey::Query(value) => ("query", value),
+            ApiKey::Cookie(value) => ("cookie", value),
+        }
+    }
+
+    /// Prints the scheme with its member `type`, of this word. Fails where memory runs out; then some of it may have been
+    /// printed.
+    pub(crate) fn print_typed(
+        &self,
+        alloc: Global,
+        out: &mut Writer,
+        word: &str,
+    ) -> Result<(), AllocError>
+        ensures { OnOk result (Prints (write (tagged_doc (codes "type") word.now (api_key_doc self.now))) out.old out.new) }
+    {
+        let (place, value) = self.place_and_value();
+        let names = api_key_rows_by_name!(row_names!() [tag "in" place,] tag "type" word,);
+        let values = api_key_rows_by_name!(row_values!(value) [tag "in" place,] tag "type" word,);
+        print_table(alloc, out, names, &values, &value.extensions)
+    }
 }
 
 #[derive(Clone, Copy)]
@@ -168,11 +221,15 @@ impl Tree for ApiKey {
     }
 
     fn to_value(&self, alloc: Global) -> Result<Value, AllocError> {
-        match self {
-            ApiKey::Header(value) => with_type(alloc, "in", "header", value.to_value(alloc)?),
-            ApiKey::Query(value) => with_type(alloc, "in", "query", value.to_value(alloc)?),
-            ApiKey::Cookie(value) => with_type(alloc, "in", "cookie", value.to_value(alloc)?),
-        }
+        let (place, value) = self.place_and_value();
+        with_type(alloc, "in", place, value.to_value(alloc)?)
+    }
+
+    fn print(&self, alloc: Global, out: &mut Writer) -> Result<(), AllocError> {
+        let (place, value) = self.place_and_value();
+        let names = api_key_rows_by_name!(row_names!() [tag "in" place,]);
+        let values = api_key_rows_by_name!(row_values!(value) [tag "in" place,]);
+        print_table(alloc, out, names, &values, &value.extensions)
     }
 
     fn try_clone(&self, alloc: Global) -> Result<ApiKey, AllocError> {

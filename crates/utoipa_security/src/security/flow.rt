@@ -4,11 +4,14 @@ ghost use Rattle.utoipa_base.specs.Kinds.{named, implicit_flow, password_flow, c
 
 use crate::security::row_lists::{clone_table, from_fields, row_values};
 use crate::security::scopes::Scopes;
+use json::Writer;
 use serde_json::Value;
 use std::alloc::{AllocError, Global};
-use utoipa_base::{Extensions, ReadFault, Readings, Tree, read_table, row_names, write_table};
+use utoipa_base::{
+    Extensions, ReadFault, Readings, Tree, print_table, read_table, row_names, write_table,
+};
 
-// The rows of the implicit flow, in the order of its member table: mark, member, field.
+// The rows of the implicit flow, in the order of its member table, which is that of the members' names: mark, member, field.
 macro_rules! implicit_rows {
     ($lines:ident!($($arguments:tt)*)) => {
         $lines! {
@@ -90,6 +93,16 @@ impl Tree for Implicit {
         write_table(alloc, names, &values, &self.extensions)
     }
 
+    fn print(&self, alloc: Global, out: &mut Writer) -> Result<(), AllocError> {
+        print_table(
+            alloc,
+            out,
+            implicit_rows!(row_names!()),
+            &implicit_rows!(row_values!(self)),
+            &self.extensions,
+        )
+    }
+
     fn try_clone(&self, alloc: Global) -> Result<Implicit, AllocError> {
         implicit_rows!(clone_table!(Implicit, self, alloc))
     }
@@ -103,6 +116,18 @@ macro_rules! password_rows {
             required "tokenUrl" token_url,
             optional "refreshUrl" refresh_url,
             scopes "scopes" scopes,
+        }
+    };
+}
+
+// The same, in the order of the members' names.
+macro_rules! password_rows_by_name {
+    ($lines:ident!($($arguments:tt)*)) => {
+        $lines! {
+            $($arguments)*;
+            optional "refreshUrl" refresh_url,
+            scopes "scopes" scopes,
+            required "tokenUrl" token_url,
         }
     };
 }
@@ -173,6 +198,12 @@ impl Tree for Password {
         write_table(alloc, names, &values, &self.extensions)
     }
 
+    fn print(&self, alloc: Global, out: &mut Writer) -> Result<(), AllocError> {
+        let names = password_rows_by_name!(row_names!());
+        let values = password_rows_by_name!(row_values!(self));
+        print_table(alloc, out, names, &values, &self.extensions)
+    }
+
     fn try_clone(&self, alloc: Global) -> Result<Password, AllocError> {
         password_rows!(clone_table!(Password, self, alloc))
     }
@@ -186,6 +217,18 @@ macro_rules! client_credentials_rows {
             required "tokenUrl" token_url,
             optional "refreshUrl" refresh_url,
             scopes "scopes" scopes,
+        }
+    };
+}
+
+// The same, in the order of the members' names.
+macro_rules! client_credentials_rows_by_name {
+    ($lines:ident!($($arguments:tt)*)) => {
+        $lines! {
+            $($arguments)*;
+            optional "refreshUrl" refresh_url,
+            scopes "scopes" scopes,
+            required "tokenUrl" token_url,
         }
     };
 }
@@ -260,6 +303,12 @@ impl Tree for ClientCredentials {
         write_table(alloc, names, &values, &self.extensions)
     }
 
+    fn print(&self, alloc: Global, out: &mut Writer) -> Result<(), AllocError> {
+        let names = client_credentials_rows_by_name!(row_names!());
+        let values = client_credentials_rows_by_name!(row_values!(self));
+        print_table(alloc, out, names, &values, &self.extensions)
+    }
+
     fn try_clone(&self, alloc: Global) -> Result<ClientCredentials, AllocError> {
         client_credentials_rows!(clone_table!(ClientCredentials, self, alloc))
     }
@@ -274,6 +323,19 @@ macro_rules! authorization_code_rows {
             required "tokenUrl" token_url,
             optional "refreshUrl" refresh_url,
             scopes "scopes" scopes,
+        }
+    };
+}
+
+// The same, in the order of the members' names.
+macro_rules! authorization_code_rows_by_name {
+    ($lines:ident!($($arguments:tt)*)) => {
+        $lines! {
+            $($arguments)*;
+            required "authorizationUrl" authorization_url,
+            optional "refreshUrl" refresh_url,
+            scopes "scopes" scopes,
+            required "tokenUrl" token_url,
         }
     };
 }
@@ -353,6 +415,12 @@ impl Tree for AuthorizationCode {
         write_table(alloc, names, &values, &self.extensions)
     }
 
+    fn print(&self, alloc: Global, out: &mut Writer) -> Result<(), AllocError> {
+        let names = authorization_code_rows_by_name!(row_names!());
+        let values = authorization_code_rows_by_name!(row_values!(self));
+        print_table(alloc, out, names, &values, &self.extensions)
+    }
+
     fn try_clone(&self, alloc: Global) -> Result<AuthorizationCode, AllocError> {
         authorization_code_rows!(clone_table!(AuthorizationCode, self, alloc))
     }
@@ -367,6 +435,19 @@ macro_rules! device_authorization_rows {
             required "tokenUrl" token_url,
             optional "refreshUrl" refresh_url,
             scopes "scopes" scopes,
+        }
+    };
+}
+
+// The same, in the order of the members' names.
+macro_rules! device_authorization_rows_by_name {
+    ($lines:ident!($($arguments:tt)*)) => {
+        $lines! {
+            $($arguments)*;
+            required "deviceAuthorizationUrl" device_authorization_url,
+            optional "refreshUrl" refresh_url,
+            scopes "scopes" scopes,
+            required "tokenUrl" token_url,
         }
     };
 }
@@ -448,6 +529,12 @@ impl Tree for DeviceAuthorization {
         let names = device_authorization_rows!(row_names!());
         let values = device_authorization_rows!(row_values!(self));
         write_table(alloc, names, &values, &self.extensions)
+    }
+
+    fn print(&self, alloc: Global, out: &mut Writer) -> Result<(), AllocError> {
+        let names = device_authorization_rows_by_name!(row_names!());
+        let values = device_authorization_rows_by_name!(row_values!(self));
+        print_table(alloc, out, names, &values, &self.extensions)
     }
 
     fn try_clone(&self, alloc: Global) -> Result<DeviceAuthorization, AllocError> {

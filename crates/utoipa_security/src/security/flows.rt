@@ -1,11 +1,12 @@
 //! The flows of OAuth under their keys: the OAuth Flows Object (OpenAPI 3.1, section 4.8.28).
-ghost use Rattle.std.specs.Prelude.{◌≡◌, Some, option_map, IfOk, IfErr};
+ghost use Rattle.std.specs.Prelude.{◌≡◌, Some, option_map, refl, IfOk, IfErr, OnOk};
 ghost use Rattle.std.specs.Iterator.{IsFinite};
 ghost use Rattle.serde_json.specs.View.{view};
 ghost use Rattle.utoipa_base.specs.Choices.{chosen, flow_keys};
 ghost use Rattle.utoipa_base.specs.Faults.{Refuses};
 ghost use Rattle.utoipa_base.specs.Kinds.{named, required};
 ghost use Rattle.utoipa_base.specs.Kinds as kinds;
+ghost use Rattle.utoipa_base.specs.Printed.{Prints};
 ghost use Rattle.utoipa_base.specs.Reading.{read};
 ghost use Rattle.utoipa_base.specs.Tables.{row};
 ghost use Rattle.utoipa_base.specs.Writing.{write};
@@ -14,6 +15,7 @@ ghost use Rattle.utoipa_security.specs.OAuth.{flow_object, flow_view, flow_key, 
 use crate::security::flow::{
     AuthorizationCode, ClientCredentials, DeviceAuthorization, Implicit, Password,
 };
+use json::Writer;
 use serde_json::{Map, Value, put};
 use std::alloc::{AllocError, Global};
 use std::collections::BTreeMap;
@@ -59,6 +61,19 @@ impl Flow {
             Flow::ClientCredentials(flow) => flow.to_value(alloc),
             Flow::AuthorizationCode(flow) => flow.to_value(alloc),
             Flow::DeviceAuthorization(flow) => flow.to_value(alloc),
+        }
+    }
+
+    // Prints the flow. Fails where memory runs out; then some of it may have been printed.
+    fn print(&self, alloc: Global, out: &mut Writer) -> Result<(), AllocError>
+        ensures { OnOk result (Prints (write (flow_object self.now)) out.old out.new) }
+    {
+        match self {
+            Flow::Implicit(flow) => flow.print(alloc, out),
+            Flow::Password(flow) => flow.print(alloc, out),
+            Flow::ClientCredentials(flow) => flow.print(alloc, out),
+            Flow::AuthorizationCode(flow) => flow.print(alloc, out),
+            Flow::DeviceAuthorization(flow) => flow.print(alloc, out),
         }
     }
 
@@ -222,6 +237,22 @@ fn flows_value(alloc: Global, flows: &BTreeMap<String, Flow>) -> Result<Value, A
     Ok(Value::Object(members))
 }
 
+// Prints the flows under their keys. Fails where memory runs out; then some of them may have been printed.
+fn print_flows(
+    alloc: Global,
+    out: &mut Writer,
+    flows: &BTreeMap<String, Flow>,
+) -> Result<(), AllocError>
+    ensures { OnOk result (Prints (write (flows_doc flows.now)) out.old out.new) }
+{
+    out.begin_object()?;
+    for (key, flow) in flows.iter() {
+        out.key(key.as_str())?;
+        flow.print(alloc, out)?;
+    }
+    out.end_object()
+}
+
 /// The flows of an OAuth scheme, to be written: a required member of it.
 #[derive(Clone, Copy)]
 pub(crate) struct FlowsValue<'a>(pub(crate) &'a BTreeMap<String, Flow>);
@@ -229,6 +260,8 @@ pub(crate) struct FlowsValue<'a>(pub(crate) &'a BTreeMap<String, Flow>);
 #[tactic(auto, using(utoipa_base::proofs::ByRows::by_row))]
 impl<'a> RowValue for FlowsValue<'a> {
     ghost line = { λ name. row name required kinds.flows };
+
+    ghost is_named = { λ _. refl };
 
     ghost doc = { λ v. flows_doc v.0.now };
 
@@ -239,6 +272,14 @@ impl<'a> RowValue for FlowsValue<'a> {
         name: &str,
     ) -> Result<(), AllocError> {
         put(members, alloc, name, flows_value(alloc, self.0)?)
+    }
+
+    fn is_left_out(&self) -> bool {
+        false
+    }
+
+    fn print(&self, alloc: Global, out: &mut Writer) -> Result<(), AllocError> {
+        print_flows(alloc, out, self.0)
     }
 }
 

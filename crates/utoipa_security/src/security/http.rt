@@ -1,12 +1,17 @@
 //! Schemes of HTTP authentication.
-ghost use Rattle.std.specs.Prelude.{◌≡◌, None, Some, refl, false};
+ghost use Rattle.std.specs.Prelude.{◌≡◌, None, Some, codes, refl, false, OnOk};
+ghost use Rattle.utoipa_base.specs.Docs.{tagged_doc};
 ghost use Rattle.utoipa_base.specs.Kinds.{named, http_scheme, word_of, http_auth_scheme};
+ghost use Rattle.utoipa_base.specs.Printed.{Prints};
+ghost use Rattle.utoipa_base.specs.Writing.{write};
 
+use crate::security::row_lists::row_values;
+use json::Writer;
 use serde_json::Value;
 use std::alloc::{AllocError, Global};
 use utoipa_base::{
-    Deprecated, Extensions, ReadFault, Readings, Tree, Word, clone_table, from_fields, read_table,
-    read_word, row_names, row_values, write_table, write_word,
+    Deprecated, Extensions, ReadFault, Readings, Tree, Word, clone_table, from_fields, print_table,
+    print_word, read_table, read_word, row_names, write_table, write_word,
 };
 
 /// The name of an HTTP authentication scheme: the member `scheme` of a Security Scheme Object of the type `http`
@@ -103,6 +108,10 @@ impl Tree for HttpAuthScheme {
         write_word(alloc, self)
     }
 
+    fn print(&self, _alloc: Global, out: &mut Writer) -> Result<(), AllocError> {
+        print_word(out, self)
+    }
+
     fn try_clone(&self, _alloc: Global) -> Result<HttpAuthScheme, AllocError> {
         Ok(*self)
     }
@@ -117,6 +126,20 @@ macro_rules! http_rows {
             optional "bearerFormat" bearer_format,
             optional "description" description,
             optional "deprecated" deprecated,
+        }
+    };
+}
+
+// The same, in the order of the members' names, with rows that come last.
+macro_rules! http_rows_by_name {
+    ($lines:ident!($($arguments:tt)*) $($last:tt)*) => {
+        $lines! {
+            $($arguments)*;
+            optional "bearerFormat" bearer_format,
+            optional "deprecated" deprecated,
+            optional "description" description,
+            required "scheme" scheme,
+            $($last)*
         }
     };
 }
@@ -137,7 +160,7 @@ pub struct Http {
 }
 
 impl Http {
-    ghost use Rattle.utoipa_security.specs.Http.{made_http, built_http};
+    ghost use Rattle.utoipa_security.specs.Http.{made_http, built_http, http_doc};
 
     /// A scheme of a name, with nothing else.
     pub fn new(scheme: HttpAuthScheme) -> Http
@@ -157,6 +180,21 @@ impl Http {
         ensures { built_http result ≡ made_http HttpAuthScheme.Basic }
     {
         HttpBuilder::new()
+    }
+
+    /// Prints the scheme with its member `type`, of this word. Fails where memory runs out; then some of it may have been
+    /// printed.
+    pub(crate) fn print_typed(
+        &self,
+        alloc: Global,
+        out: &mut Writer,
+        word: &str,
+    ) -> Result<(), AllocError>
+        ensures { OnOk result (Prints (write (tagged_doc (codes "type") word.now (http_doc self.now))) out.old out.new) }
+    {
+        let names = http_rows_by_name!(row_names!() tag "type" word,);
+        let values = http_rows_by_name!(row_values!(self) tag "type" word,);
+        print_table(alloc, out, names, &values, &self.extensions)
     }
 }
 
@@ -179,6 +217,12 @@ impl Tree for Http {
         let names = http_rows!(row_names!());
         let values = http_rows!(row_values!(self));
         write_table(alloc, names, &values, &self.extensions)
+    }
+
+    fn print(&self, alloc: Global, out: &mut Writer) -> Result<(), AllocError> {
+        let names = http_rows_by_name!(row_names!());
+        let values = http_rows_by_name!(row_values!(self));
+        print_table(alloc, out, names, &values, &self.extensions)
     }
 
     fn try_clone(&self, alloc: Global) -> Result<Http, AllocError> {

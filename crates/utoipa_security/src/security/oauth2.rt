@@ -1,15 +1,20 @@
 //! Schemes by OAuth 2.
-ghost use Rattle.std.specs.Prelude.{◌≡◌, None, Some, refl, false, IfOk};
+ghost use Rattle.std.specs.Prelude.{◌≡◌, None, Some, codes, refl, false, IfOk, OnOk};
 ghost use Rattle.std.specs.Iterator.{IsFinite};
+ghost use Rattle.utoipa_base.specs.Docs.{tagged_doc};
 ghost use Rattle.utoipa_base.specs.Kinds.{named, oauth2_scheme};
+ghost use Rattle.utoipa_base.specs.Printed.{Prints};
+ghost use Rattle.utoipa_base.specs.Writing.{write};
 
 use crate::security::flows::{Flow, keyed_flows};
 use crate::security::row_lists::{clone_table, from_fields, row_values};
+use json::Writer;
 use serde_json::Value;
 use std::alloc::{AllocError, Global};
 use std::collections::BTreeMap;
 use utoipa_base::{
-    Deprecated, Extensions, ReadFault, Readings, Tree, read_table, row_names, write_table,
+    Deprecated, Extensions, ReadFault, Readings, Tree, print_table, read_table, row_names,
+    write_table,
 };
 
 // The rows of a scheme by OAuth 2, in the order of its member table: mark, member, field.
@@ -21,6 +26,20 @@ macro_rules! oauth2_rows {
             optional "oauth2MetadataUrl" oauth2_metadata_url,
             optional "description" description,
             optional "deprecated" deprecated,
+        }
+    };
+}
+
+// The same, in the order of the members' names, with rows that come last.
+macro_rules! oauth2_rows_by_name {
+    ($lines:ident!($($arguments:tt)*) $($last:tt)*) => {
+        $lines! {
+            $($arguments)*;
+            optional "deprecated" deprecated,
+            optional "description" description,
+            flows "flows" flows,
+            optional "oauth2MetadataUrl" oauth2_metadata_url,
+            $($last)*
         }
     };
 }
@@ -41,7 +60,7 @@ pub struct OAuth2 {
 }
 
 impl OAuth2 {
-    ghost use Rattle.utoipa_security.specs.OAuth.{made_oauth2, IsKeyedFrom};
+    ghost use Rattle.utoipa_security.specs.OAuth.{made_oauth2, IsKeyedFrom, oauth2_doc};
 
     /// A scheme with flows, each under the key of its kind, where the later of two of one kind stays. The iterator has to
     /// end. Fails where memory runs out.
@@ -96,6 +115,21 @@ impl OAuth2 {
         self.deprecated = deprecated;
         self
     }
+
+    /// Prints the scheme with its member `type`, of this word. Fails where memory runs out; then some of it may have been
+    /// printed.
+    pub(crate) fn print_typed(
+        &self,
+        alloc: Global,
+        out: &mut Writer,
+        word: &str,
+    ) -> Result<(), AllocError>
+        ensures { OnOk result (Prints (write (tagged_doc (codes "type") word.now (oauth2_doc self.now))) out.old out.new) }
+    {
+        let names = oauth2_rows_by_name!(row_names!() tag "type" word,);
+        let values = oauth2_rows_by_name!(row_values!(self) tag "type" word,);
+        print_table(alloc, out, names, &values, &self.extensions)
+    }
 }
 
 impl Tree for OAuth2 {
@@ -121,6 +155,12 @@ impl Tree for OAuth2 {
         let names = oauth2_rows!(row_names!());
         let values = oauth2_rows!(row_values!(self));
         write_table(alloc, names, &values, &self.extensions)
+    }
+
+    fn print(&self, alloc: Global, out: &mut Writer) -> Result<(), AllocError> {
+        let names = oauth2_rows_by_name!(row_names!());
+        let values = oauth2_rows_by_name!(row_values!(self));
+        print_table(alloc, out, names, &values, &self.extensions)
     }
 
     fn try_clone(&self, alloc: Global) -> Result<OAuth2, AllocError> {

@@ -1,12 +1,17 @@
 //! Schemes whose configuration is found by OpenID Connect Discovery.
-ghost use Rattle.std.specs.Prelude.{◌≡◌, None, Some, refl, false};
+ghost use Rattle.std.specs.Prelude.{◌≡◌, None, Some, codes, refl, false, OnOk};
+ghost use Rattle.utoipa_base.specs.Docs.{tagged_doc};
 ghost use Rattle.utoipa_base.specs.Kinds.{named, open_id_connect_scheme};
+ghost use Rattle.utoipa_base.specs.Printed.{Prints};
+ghost use Rattle.utoipa_base.specs.Writing.{write};
 
+use crate::security::row_lists::row_values;
+use json::Writer;
 use serde_json::Value;
 use std::alloc::{AllocError, Global};
 use utoipa_base::{
-    Deprecated, Extensions, ReadFault, Readings, Tree, clone_table, from_fields, read_table,
-    row_names, row_values, write_table,
+    Deprecated, Extensions, ReadFault, Readings, Tree, clone_table, from_fields, print_table,
+    read_table, row_names, write_table,
 };
 
 // The rows of a scheme by OpenID Connect, in the order of its member table: mark, member, field.
@@ -17,6 +22,19 @@ macro_rules! open_id_connect_rows {
             required "openIdConnectUrl" open_id_connect_url,
             optional "description" description,
             optional "deprecated" deprecated,
+        }
+    };
+}
+
+// The same, in the order of the members' names, with rows that come last.
+macro_rules! open_id_connect_rows_by_name {
+    ($lines:ident!($($arguments:tt)*) $($last:tt)*) => {
+        $lines! {
+            $($arguments)*;
+            optional "deprecated" deprecated,
+            optional "description" description,
+            required "openIdConnectUrl" open_id_connect_url,
+            $($last)*
         }
     };
 }
@@ -35,7 +53,7 @@ pub struct OpenIdConnect {
 }
 
 impl OpenIdConnect {
-    ghost use Rattle.utoipa_security.specs.OpenIdConnect.{made_open_id_connect};
+    ghost use Rattle.utoipa_security.specs.OpenIdConnect.{made_open_id_connect, open_id_connect_doc};
 
     /// A scheme whose discovery document is at a URL, with nothing else.
     pub fn new(open_id_connect_url: String) -> OpenIdConnect
@@ -68,6 +86,21 @@ impl OpenIdConnect {
         self.deprecated = deprecated;
         self
     }
+
+    /// Prints the scheme with its member `type`, of this word. Fails where memory runs out; then some of it may have been
+    /// printed.
+    pub(crate) fn print_typed(
+        &self,
+        alloc: Global,
+        out: &mut Writer,
+        word: &str,
+    ) -> Result<(), AllocError>
+        ensures { OnOk result (Prints (write (tagged_doc (codes "type") word.now (open_id_connect_doc self.now))) out.old out.new) }
+    {
+        let names = open_id_connect_rows_by_name!(row_names!() tag "type" word,);
+        let values = open_id_connect_rows_by_name!(row_values!(self) tag "type" word,);
+        print_table(alloc, out, names, &values, &self.extensions)
+    }
 }
 
 impl Tree for OpenIdConnect {
@@ -93,6 +126,12 @@ impl Tree for OpenIdConnect {
         let names = open_id_connect_rows!(row_names!());
         let values = open_id_connect_rows!(row_values!(self));
         write_table(alloc, names, &values, &self.extensions)
+    }
+
+    fn print(&self, alloc: Global, out: &mut Writer) -> Result<(), AllocError> {
+        let names = open_id_connect_rows_by_name!(row_names!());
+        let values = open_id_connect_rows_by_name!(row_values!(self));
+        print_table(alloc, out, names, &values, &self.extensions)
     }
 
     fn try_clone(&self, alloc: Global) -> Result<OpenIdConnect, AllocError> {

@@ -5,6 +5,7 @@ ghost use Rattle.std.specs.Iterator.{IsFinite};
 ghost use Rattle.utoipa_base.specs.Lists.{IsFilledFrom};
 ghost use Rattle.utoipa_base.specs.Tables.{security_requirement};
 
+use json::Writer;
 use serde_json::Value;
 use std::alloc::{AllocError, Global};
 use std::collections::BTreeMap;
@@ -94,6 +95,10 @@ impl Tree for SecurityRequirement {
 
     fn to_value(&self, alloc: Global) -> Result<Value, AllocError> {
         self.value.to_value(alloc)
+    }
+
+    fn print(&self, alloc: Global, out: &mut Writer) -> Result<(), AllocError> {
+        self.value.print(alloc, out)
     }
 
     fn try_clone(&self, alloc: Global) -> Result<SecurityRequirement, AllocError> {

@@ -1,5 +1,6 @@
-//! Lists of rows with two marks beside those of utoipa_base: `scopes` and `flows`, of required members that are read and
-//! written as types of this crate. A list that has neither is taken by the macros of utoipa_base.
+//! Lists of rows with three marks beside those of utoipa_base: `scopes` and `flows`, of required members that are read and
+//! written as types of this crate, and `tag`, of the member that says of which type a scheme is, with a text in place of
+//! the field. A list that has none of them is taken by the macros of utoipa_base.
 
 /// The pattern of the fields that rows are read as.
 macro_rules! row_fields {
@@ -34,6 +35,9 @@ macro_rules! row_values {
     };
     ($self:expr; flows $name:literal $field:ident, $($rest:tt)*) => {
         ($crate::security::flows::FlowsValue(&$self.$field), $crate::security::row_lists::row_values!($self; $($rest)*))
+    };
+    ($self:expr; tag $name:literal $text:ident, $($rest:tt)*) => {
+        ($crate::security::scheme_type::TypeValue($text), $crate::security::row_lists::row_values!($self; $($rest)*))
     };
     ($self:expr; required $name:literal $field:ident, $($rest:tt)*) => {
         (utoipa_base::table::RequiredValue(&$self.$field), $crate::security::row_lists::row_values!($self; $($rest)*))

@@ -1,7 +1,9 @@
 //! Security schemes of every type.
-ghost use Rattle.std.specs.Prelude.{◌≡◌, IfOk};
+ghost use Rattle.std.specs.Prelude.{◌≡◌, codes, IfOk, OnOk};
 ghost use Rattle.serde_json.specs.View.{view};
+ghost use Rattle.utoipa_base.specs.Docs.{tagged_doc};
 ghost use Rattle.utoipa_base.specs.Kinds.{named, security_scheme, mutual_tls_scheme};
+ghost use Rattle.utoipa_base.specs.Printed.{Prints};
 ghost use Rattle.utoipa_base.specs.Reading.{read};
 ghost use Rattle.utoipa_base.specs.Reads.{Reads};
 ghost use Rattle.utoipa_base.specs.Values.{values};
@@ -13,13 +15,14 @@ use crate::security::api_key::ApiKey;
 use crate::security::http::Http;
 use crate::security::oauth2::OAuth2;
 use crate::security::open_id_connect::OpenIdConnect;
-use crate::security::scheme_type::{read_type, with_type};
+use crate::security::scheme_type::{TypeValue, read_type, with_type};
+use json::Writer;
 use serde_json::Value;
 use std::alloc::{AllocError, Global};
 use utoipa_base::table::{OptionalField, OptionalValue};
 use utoipa_base::{
     Deprecated, Extensions, Place, ReadFault, Readings, Tree, clone_extensions, clone_option,
-    read_table, write_table,
+    print_table, read_table, write_table,
 };
 
 // The members of a scheme of the type `mutualTLS`, in the order of its member table.
@@ -101,6 +104,26 @@ fn mutual_tls_value(
     write_table(alloc, &MUTUAL_TLS_NAMES, &values, extensions)
 }
 
+// Prints a scheme of the type `mutualTLS`. Fails where memory runs out; then some of it may have been printed.
+fn print_mutual_tls(
+    alloc: Global,
+    out: &mut Writer,
+    description: &Option<String>,
+    deprecated: &Option<Deprecated>,
+    extensions: &Option<Extensions>,
+) -> Result<(), AllocError>
+    ensures { OnOk result (Prints (write (tagged_doc (codes "type") (codes "mutualTLS")
+        (mutual_tls_doc description.now deprecated.now extensions.now))) out.old out.new) }
+{
+    let names = &["deprecated", "description", "type"];
+    let last = (TypeValue("mutualTLS"), ());
+    let values = (
+        OptionalValue(deprecated),
+        (OptionalValue(description), last),
+    );
+    print_table(alloc, out, names, &values, extensions)
+}
+
 // The members of a scheme of one type.
 fn read_scheme(
     kind: SchemeType,
@@ -169,6 +192,22 @@ impl Tree for SecurityScheme {
                 let written = mutual_tls_value(alloc, description, deprecated, extensions)?;
                 with_type(alloc, "type", "mutualTLS", written)
             }
+        }
+    }
+
+    fn print(&self, alloc: Global, out: &mut Writer) -> Result<(), AllocError> {
+        match self {
+            SecurityScheme::OAuth2(scheme) => scheme.print_typed(alloc, out, "oauth2"),
+            SecurityScheme::ApiKey(scheme) => scheme.print_typed(alloc, out, "apiKey"),
+            SecurityScheme::Http(scheme) => scheme.print_typed(alloc, out, "http"),
+            SecurityScheme::OpenIdConnect(scheme) => {
+                scheme.print_typed(alloc, out, "openIdConnect")
+            }
+            SecurityScheme::MutualTls {
+                description,
+                deprecated,
+                extensions,
+            } => print_mutual_tls(alloc, out, description, deprecated, extensions),
         }
     }
 

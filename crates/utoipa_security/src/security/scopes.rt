@@ -5,13 +5,14 @@ ghost use Rattle.utoipa_base.specs.Kinds.{named, scopes_object, text, map_of, re
 ghost use Rattle.utoipa_base.specs.Tables.{row};
 ghost use Rattle.utoipa_security.specs.Scopes.{scopes_member};
 
+use json::Writer;
 use serde_json::{Map, Value};
 use std::alloc::{AllocError, Global};
 use std::collections::BTreeMap;
 use utoipa_base::table::{RowField, RowValue};
 use utoipa_base::{
-    ReadFault, Readings, Tree, from_fields_alone, read_table_alone, row_names, row_required,
-    row_values, write_required, write_table_alone,
+    ReadFault, Readings, Tree, from_fields_alone, print_table, read_table_alone, row_names,
+    row_required, row_values, write_required, write_table_alone,
 };
 
 // The row of scopes by themselves: mark, member, field.
@@ -97,6 +98,12 @@ impl Tree for Scopes {
         write_table_alone(alloc, names, &values)
     }
 
+    fn print(&self, alloc: Global, out: &mut Writer) -> Result<(), AllocError> {
+        let names = scopes_rows!(row_names!());
+        let values = scopes_rows!(row_values!(self));
+        print_table(alloc, out, names, &values, &None)
+    }
+
     fn try_clone(&self, alloc: Global) -> Result<Scopes, AllocError> {
         clone_scopes(alloc, self)
     }
@@ -129,6 +136,8 @@ pub(crate) struct ScopesValue<'a>(pub(crate) &'a Scopes);
 impl<'a> RowValue for ScopesValue<'a> {
     ghost line = { λ name. row name required (map_of text) };
 
+    ghost is_named = { λ _. refl };
+
     ghost doc = { λ v. scopes_member v.0.now };
 
     fn write(
@@ -138,6 +147,14 @@ impl<'a> RowValue for ScopesValue<'a> {
         name: &str,
     ) -> Result<(), AllocError> {
         write_required(members, alloc, name, &self.0.scopes)
+    }
+
+    fn is_left_out(&self) -> bool {
+        false
+    }
+
+    fn print(&self, alloc: Global, out: &mut Writer) -> Result<(), AllocError> {
+        self.0.scopes.print(alloc, out)
     }
 }
 
