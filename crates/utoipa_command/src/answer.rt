@@ -1,8 +1,7 @@
 //! The answer of a command to a text.
-ghost use Rattle.std.specs.Prelude.{◌≡◌, ◌≢◌, false, Some, IfOk, IfErr};
+ghost use Rattle.std.specs.Prelude.{◌≡◌, ◌≢◌, Some, IfOk, IfErr};
 ghost use Rattle.serde_json.specs.View.{view};
-ghost use Rattle.serde_json.specs.Written.{has_float};
-ghost use Rattle.utoipa_command.specs.Answers.{tree_of, rewritten, answer_of, line_of, HasNoTree, IsAnswer, IsAnswerToTree, IsCause, IsCauseInTree};
+ghost use Rattle.utoipa_command.specs.Answers.{tree_of, rewritten, answer_of, HasNoTree, IsAnswer, IsAnswerToTree, IsCause, IsCauseInTree};
 
 use crate::command::Command;
 use crate::refusal::Refusal;
@@ -48,8 +47,7 @@ fn answer_to_tree(alloc: Global, command: Command, tree: Value) -> Result<Vec<u8
     }
 }
 
-// Reads a document of the type and writes it. At most two of the tree, the document and the tree that is written of it
-// are held at a time.
+// Reads a document of the type and prints it. At most two of the tree, the document and the line are held at a time.
 fn rewritten<T: Tree>(alloc: Global, tree: Value) -> Result<Vec<u8>, Refusal>
     ensures ok { IfOk result (λ line. IsAnswerToTree (view tree) (rewritten T.kind (view tree)) line.items) }
     ensures err { IfErr result (IsCauseInTree (view tree) (rewritten T.kind (view tree))) }
@@ -57,18 +55,7 @@ fn rewritten<T: Tree>(alloc: Global, tree: Value) -> Result<Vec<u8>, Refusal>
     stays_plain::<T>(&tree);
     let document = T::from_value(alloc, &tree)?;
     drop(tree);
-    let written = document.to_value(alloc)?;
-    drop(document);
-    line(alloc, &written)
-}
-
-// The line of a tree.
-fn line(alloc: Global, tree: &Value) -> Result<Vec<u8>, Refusal>
-    requires { has_float (view tree.now) ≡ false }
-    ensures ok { IfOk result (λ line. line.items ≡ line_of (view tree.now)) }
-    ensures err { IfErr result (λ w. w ≡ Refusal.Memory) }
-{
-    let mut line = tree.to_vec(alloc)?;
+    let mut line = document.to_json(alloc)?;
     line.push(b'\n')?;
     Ok(line)
 }
