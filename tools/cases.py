@@ -16,7 +16,8 @@ In a line, <12*TEXT> is TEXT twelve times, and <0*> nothing. The input of `run-h
 
 The sweeps over the member tables are made here, from the tables of docs/FORMAT.md: each member of each type that is built,
 with a value that fits, absent, null, and with a value of another kind, on the smallest document of its type.
-What is expected is the rule of the member's mark.
+What is expected is the rule of the member's mark. Each type that keeps extensions is printed with extensions of any names;
+what is expected is the object of all members, in the order of the bytes of their names, where the type's own member wins.
 """
 import ast
 import glob
@@ -239,6 +240,48 @@ class Sweep:
             self.is_read(tree, others if mark == "defaulted" else tree)
 
 
+# Where each table is printed: the type that is read, and the members that say which of its alternatives it is.
+PRINTED = [(name, name, {}) for name in SWEPT if name not in WITHOUT_EXTENSIONS and name != "MutualTls"]
+PRINTED += [(name, "Schema", {}) for name in ("Object", "Array", "OneOf", "AllOf", "AnyOf")]
+PRINTED += [("ApiKeyValue", "ApiKey", {"in": word}) for word in ("header", "query", "cookie")]
+PRINTED += [(name, "SecurityScheme", {"type": word}) for name, word in
+            (("OAuth2", "oauth2"), ("Http", "http"), ("OpenIdConnect", "openIdConnect"), ("MutualTls", "mutualTLS"))]
+PRINTED += [("ApiKeyValue", "SecurityScheme", {"in": word, "type": "apiKey"}) for word in ("header", "query", "cookie")]
+
+
+class Printing:
+    """The cases of one type, printed with extensions of any names."""
+
+    def __init__(self, cases, form, name, type, fixed):
+        self.cases, self.form, self.name, self.type = cases, form, name, type
+        self.whole = {**{it: form.fitting(kind) for it, _, kind in form.tables[name]}, **fixed}
+        self.smallest = {**form.smallest(name), **fixed}
+
+    def add_with(self, extensions):
+        """Both values with the extensions: an extension stands where the type writes no member of its name."""
+        for document in (self.whole, self.smallest):
+            written = {**extensions, **self.form.written(self.name, document)}
+            self.cases.add("print " + self.type, text_of(document) + "\t" + text_of(extensions), text_of(written))
+
+    def add(self):
+        said = " as " + self.type if self.type != self.name else ""
+        self.cases.say("# %s%s, printed with all members and with the required ones alone: extensions before and after them"
+                       % (self.name, said))
+        own = {it: "own" for it in self.whole}
+        between = {it + "!": ["between"] for it in self.whole}
+        outside = {"": None, "!": {"b": [], "a": {}}, "x-a": {"b": [1, None], "a": '"\\\n'}, "zzz": True, "\ufb01": -1, "\U00010000": 1}
+        self.add_with({})
+        for name, value in outside.items():
+            self.add_with({name: value})
+        self.add_with(outside)
+        self.cases.say("# %s%s, and of the names of its members, between them, and all of these" % (self.name, said))
+        for member in self.whole:
+            self.add_with({member[:-1]: 1, member: {"x-b": 2}, member + "!": 3})
+        self.add_with(own)
+        self.add_with(between)
+        self.add_with({**outside, **own, **between})
+
+
 def add_words(cases, name, words):
     cases.say("# %s: its words, and other texts and kinds" % name)
     for word in words:
@@ -266,6 +309,8 @@ def all_cases():
         sweep = Sweep(cases, form, name)
         sweep.add()
         add_trees(cases, sweep.type)
+    for printed in PRINTED:
+        Printing(cases, form, *printed).add()
     for name, words in form.words.items():
         if name != "OpenApiVersion":
             add_words(cases, name, words)

@@ -10,16 +10,23 @@
 //! | `calls ..` | the text | the same, and how often the reader and the answer's writer were called |
 //! | `faults HOW AT ..` | the text | how many calls can fail, each with the run that is due, and the run where none fails |
 //! | `read TYPE` | a JSON text | what a copy of the value that its tree reads as is written as, or the refusal |
+//! | `print TYPE` | two JSON texts, a tab between: a value, and an object whose members are its extensions | what the value prints, or the refusal |
 //! | `fault TYPE` | a JSON text | what the fault of reading it says |
 //! | `fits TYPE` | a JSON text | whether its tree is a document of the type: `yes` or `no` |
 //! | `count TYPE` | a JSON text | the schema readings, and the values of the tree |
 //! | `count-from N TYPE` | a JSON text | `within`, where N readings at least were counted, and no more than the tree has values |
 //! | `same TYPE` | two JSON texts, a tab between | whether both values are the same |
+//!
+//! A value that prints another text than that of the tree that it is written as is told so by `read` and `print`, as
+//! `printed otherwise`, and that text.
 #![tactic(auto)]
 
+mod extended;
+mod extensions;
 mod faults;
 mod hex;
 mod planned;
+mod printing;
 mod question;
 mod runs;
 mod same;
@@ -65,6 +72,7 @@ fn answer_to_call(
         "calls" => runs::run_with_calls(alloc, words, given.as_bytes()),
         "faults" => faults::faults_of(alloc, kind, given.as_bytes()),
         "read" => types::answer_of_type(alloc, Question::Read, kind, given),
+        "print" => extensions::printed_with_extensions(alloc, kind, given),
         "fault" => types::answer_of_type(alloc, Question::Fault, kind, given),
         "fits" => types::answer_of_type(alloc, Question::Fit, kind, given),
         "count" => types::answer_of_type(alloc, Question::Count, kind, given),

@@ -1,5 +1,6 @@
 //! What is asked of a tree as a type.
 
+use crate::printing::printed;
 use crate::values::values_of;
 use serde_json::Value;
 use std::alloc::{AllocError, Global};
@@ -9,7 +10,7 @@ use utoipa_command::Refusal;
 /// What is asked.
 #[derive(Clone, Copy)]
 pub enum Question {
-    /// What a copy of the value is written as, or the word of the refusal.
+    /// What a copy of the value is written as and prints, or the word of the refusal.
     Read,
     /// What the fault of reading says.
     Fault,
@@ -50,15 +51,14 @@ fn read_again<T: Tree>(alloc: Global, tree: &Value) -> Result<String, AllocError
         Ok(value) => {
             let copy = value.try_clone(alloc)?;
             drop(value);
-            let written = copy.to_value(alloc)?;
-            written.to_string(alloc)
+            printed(alloc, &copy)
         }
         Err(fault) => refused(alloc, fault),
     }
 }
 
-// The line of the command for a fault, without its newline.
-fn refused(alloc: Global, fault: ReadFault) -> Result<String, AllocError> {
+/// The line of the command for a fault, without its newline.
+pub fn refused(alloc: Global, fault: ReadFault) -> Result<String, AllocError> {
     let line = Refusal::from(fault).line();
     String::from_str(alloc, line.trim_end_matches('\n'))
 }
