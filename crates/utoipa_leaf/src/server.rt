@@ -54,20 +54,8 @@ pub struct Server {
     pub extensions: Option<Extensions>,
 }
 
-// The rows of a server variable, in the order of its member table: mark, member, field.
+// The rows of a server variable, in the order of its member table, which is that of their names: mark, member, field.
 macro_rules! server_variable_rows {
-    ($lines:ident!($($arguments:tt)*)) => {
-        $lines! {
-            $($arguments)*;
-            required "default" default_value,
-            optional "description" description,
-            optional "enum" enum_values,
-        }
-    };
-}
-
-// The same, in the order of the members' names.
-macro_rules! server_variable_rows_by_name {
     ($lines:ident!($($arguments:tt)*)) => {
         $lines! {
             $($arguments)*;
@@ -188,8 +176,8 @@ impl Tree for ServerVariable {
     }
 
     fn print(&self, alloc: Global, out: &mut Writer) -> Result<(), AllocError> {
-        let names = server_variable_rows_by_name!(row_names!());
-        let values = server_variable_rows_by_name!(row_values!(self));
+        let names = server_variable_rows!(row_names!());
+        let values = server_variable_rows!(row_values!(self));
         print_table(alloc, out, names, &values, &self.extensions)
     }
 
