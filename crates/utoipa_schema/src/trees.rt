@@ -10,7 +10,8 @@ ghost use Rattle.utoipa_schema.specs.Docs.{schema_doc, additional_properties_doc
 ghost use Rattle.utoipa_schema.specs.OfKind.{schema_of_kind, additional_properties_of_kind, array_items_of_kind, one_of_of_kind, all_of_of_kind, any_of_of_kind, array_of_kind, object_of_kind};
 
 use crate::types::{AdditionalProperties, AllOf, AnyOf, Array, ArrayItems, Object, OneOf, Schema};
-use crate::{copy, read, write};
+use crate::{copy, print, read, write};
+use json::Writer;
 use serde_json::Value;
 use std::alloc::{AllocError, Global};
 use std::collections::BTreeMap;
@@ -34,6 +35,10 @@ impl Tree for Schema {
 
     fn to_value(&self, alloc: Global) -> Result<Value, AllocError> {
         write::write_schema(alloc, self)
+    }
+
+    fn print(&self, alloc: Global, out: &mut Writer) -> Result<(), AllocError> {
+        print::print_schema(alloc, self, out)
     }
 
     fn try_clone(&self, alloc: Global) -> Result<Schema, AllocError> {
@@ -77,6 +82,10 @@ impl Tree for Object {
         write::write_object(alloc, self)
     }
 
+    fn print(&self, alloc: Global, out: &mut Writer) -> Result<(), AllocError> {
+        print::print_object(alloc, self, out)
+    }
+
     fn try_clone(&self, alloc: Global) -> Result<Object, AllocError> {
         copy::clone_object(alloc, self)
     }
@@ -100,6 +109,10 @@ impl Tree for Array {
 
     fn to_value(&self, alloc: Global) -> Result<Value, AllocError> {
         write::write_array(alloc, self)
+    }
+
+    fn print(&self, alloc: Global, out: &mut Writer) -> Result<(), AllocError> {
+        print::print_array(alloc, self, out)
     }
 
     fn try_clone(&self, alloc: Global) -> Result<Array, AllocError> {
@@ -127,6 +140,10 @@ impl Tree for OneOf {
         write::write_one_of(alloc, self)
     }
 
+    fn print(&self, alloc: Global, out: &mut Writer) -> Result<(), AllocError> {
+        print::print_one_of(alloc, self, out)
+    }
+
     fn try_clone(&self, alloc: Global) -> Result<OneOf, AllocError> {
         copy::clone_one_of(alloc, self)
     }
@@ -150,6 +167,10 @@ impl Tree for AllOf {
 
     fn to_value(&self, alloc: Global) -> Result<Value, AllocError> {
         write::write_all_of(alloc, self)
+    }
+
+    fn print(&self, alloc: Global, out: &mut Writer) -> Result<(), AllocError> {
+        print::print_all_of(alloc, self, out)
     }
 
     fn try_clone(&self, alloc: Global) -> Result<AllOf, AllocError> {
@@ -177,6 +198,10 @@ impl Tree for AnyOf {
         write::write_any_of(alloc, self)
     }
 
+    fn print(&self, alloc: Global, out: &mut Writer) -> Result<(), AllocError> {
+        print::print_any_of(alloc, self, out)
+    }
+
     fn try_clone(&self, alloc: Global) -> Result<AnyOf, AllocError> {
         copy::clone_any_of(alloc, self)
     }
@@ -202,6 +227,10 @@ impl Tree for ArrayItems {
         write::write_items(alloc, self)
     }
 
+    fn print(&self, alloc: Global, out: &mut Writer) -> Result<(), AllocError> {
+        print::print_items(alloc, self, out)
+    }
+
     fn try_clone(&self, alloc: Global) -> Result<ArrayItems, AllocError> {
         copy::clone_items(alloc, self)
     }
@@ -225,6 +254,10 @@ impl Tree for AdditionalProperties<Schema> {
 
     fn to_value(&self, alloc: Global) -> Result<Value, AllocError> {
         write::write_additional(alloc, self)
+    }
+
+    fn print(&self, alloc: Global, out: &mut Writer) -> Result<(), AllocError> {
+        print::print_additional(alloc, self, out)
     }
 
     fn try_clone(&self, alloc: Global) -> Result<AdditionalProperties<Schema>, AllocError> {
