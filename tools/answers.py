@@ -1,12 +1,12 @@
 #!/usr/bin/env python3
-"""Writes the answers of the types that are read and written by the list of their rows.
+"""Writes the answers of the types that are read, written and printed by the lists of their rows.
 
     tools/answers.py CRATE MODULE TYPE..
 
 reads crates/CRATE/src/MODULE.rt (MODULE as `security/http` for a module in a folder) and writes, for each TYPE, the answers of
-its `read_plain` and `to_value` below crates/CRATE/proofs/MODULE/. Its `impl Tree` has to have the form of the others: the ghost
+its `read_plain`, `to_value` and `print` below crates/CRATE/proofs/MODULE/. Its `impl Tree` has to have the form of the others: the ghost
 `kind` is `named OBJECT_TYPE`, `read_plain` calls `read_table` and `to_value` calls `write_table`, or both the `.._alone` of a type that
-keeps no extensions. The answers say that the rows of the list are those of the type's table, which is found by computing.
+keeps no extensions, and `print` calls `print_table`. The answers say that the rows of the list are those of the type's table, which is found by computing.
 """
 import os
 import re
