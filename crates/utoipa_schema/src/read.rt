@@ -159,7 +159,9 @@ pub(crate) fn read_any_of(
 }
 
 /// An array with no content schema. With any that the tree has it is the array that the tree is.
+// Not inlined: the caller would keep the room of both on the stack while a schema inside is read.
 #[cycle(read)]
+#[inline(never)]
 fn array_without_content_schema(
     alloc: Global,
     tree: &Value,
@@ -183,7 +185,9 @@ fn array_without_content_schema(
 }
 
 /// An object with no content schema. With any that the tree has it is the object that the tree is.
+// Not inlined: the caller would keep the room of both on the stack while a schema inside is read.
 #[cycle(read)]
+#[inline(never)]
 fn object_without_content_schema(
     alloc: Global,
     tree: &Value,
