@@ -2,6 +2,7 @@ pub mod BoolFacts
 pub mod TableNames
 pub mod Values
 pub mod WithoutSchemas
+pub mod ByName
 pub mod ExtensionMembers
 pub mod ByKind
 pub mod Maps
@@ -23,6 +24,7 @@ pub mod Twice
 pub mod WhatIsRead
 pub mod WritingLists
 pub mod WritingMaps
+pub mod OrderedMaps
 pub mod TableParts
 pub mod TableCounts
 pub mod Members

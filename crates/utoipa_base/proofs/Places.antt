@@ -5,7 +5,7 @@ use Rattle.serde_json.specs.Data.{Data, null, boolean, number, string, array, ob
 use Rattle.utoipa_base.specs.declared.fault.ReadFault.{ReadFault}
 use Rattle.utoipa_base.specs.declared.fault.ReadFault.TheVariants.{Memory, Fraction, Missing, Kind as no_kind, Word, Alternative, Text}
 use Rattle.utoipa_base.specs.Faults.{Refuses}
-use Rattle.utoipa_base.specs.Kinds.{ObjectType, reference_object, Kind, text, flag, list_of, map_of, named, schema, schema_type, ref_or}
+use Rattle.utoipa_base.specs.Kinds.{ObjectType, reference_object, Kind, text, flag, list_of, map_of, ordered_map_of, named, schema, schema_type, ref_or}
 use Rattle.utoipa_base.specs.Docs.{Doc, text_doc, flag_doc, whole_doc, tree_doc, none_doc, some_doc, ref_doc, own_doc, list_doc, map_doc, table_doc, Docs, no_docs, doc, Entries, no_entries}
 use Rattle.utoipa_base.specs.Reading.{reader, read, or_else, empty_doc}
 use Rattle.utoipa_base.specs.Writing.{write}
@@ -126,6 +126,7 @@ schema_count-empty text = refl
 schema_count-empty flag = refl
 schema_count-empty (list_of k) = refl
 schema_count-empty (map_of k) = refl
+schema_count-empty (ordered_map_of k) = refl
 schema_count-empty schema_type = refl
 schema_count-empty k = refl
 

@@ -5,15 +5,16 @@ use Rattle.std.specs.Cmp.Lexicographic.{slice_cmp}
 use Rattle.serde_json.specs.Data.{Num, Data, null, boolean, number, string, array, object, Items, no_items, item, Members, no_members, member, put}
 use Rattle.serde_json.specs.Find.{as_integer, as_u64, of_integer, is_float}
 use Rattle.serde_json.specs.Written.{has_float, items_have_float, members_have_float}
-use Rattle.utoipa_base.specs.Kinds.{ObjectType, reference_object, one_of_schema, all_of_schema, any_of_schema, array_schema, object_schema, type_word, known_format, Kind, text, flag, whole, numeral, any, word_of, version, list_of, map_of, entries_of, ref_or, named, schema, schema_type, schema_format, array_items, additional_properties, security_scheme, api_key, flows, Mark, required, optional, or_null, defaulted, Row}
+use Rattle.utoipa_base.specs.Kinds.{ObjectType, reference_object, one_of_schema, all_of_schema, any_of_schema, array_schema, object_schema, type_word, known_format, Kind, text, flag, whole, numeral, any, word_of, version, list_of, map_of, ordered_map_of, entries_of, ref_or, named, schema, schema_type, schema_format, array_items, additional_properties, security_scheme, api_key, flows, Mark, required, optional, or_null, defaulted, Row}
 use Rattle.utoipa_base.specs.Words.{is_word}
 use Rattle.utoipa_base.specs.Version.{read_version}
 use Rattle.utoipa_base.specs.Choices.{chosen, scheme_types, api_key_places, flow_keys, schema_keywords}
-use Rattle.utoipa_base.specs.Docs.{Doc, text_doc, flag_doc, whole_doc, int_doc, uint_doc, tree_doc, word_doc, custom_doc, types_doc, any_value_doc, none_doc, some_doc, ref_doc, own_doc, schema_doc, tagged_doc, flow_doc, list_doc, map_doc, entries_doc, table_doc, Docs, no_docs, doc, Entries, no_entries, entry}
+use Rattle.utoipa_base.specs.Docs.{Doc, text_doc, flag_doc, whole_doc, int_doc, uint_doc, tree_doc, word_doc, custom_doc, types_doc, any_value_doc, none_doc, some_doc, ref_doc, own_doc, schema_doc, tagged_doc, flow_doc, list_doc, map_doc, ordered_map_doc, entries_doc, table_doc, Docs, no_docs, doc, Entries, no_entries, entry}
 use Rattle.utoipa_base.specs.Tables.{table, has_extensions}
 use Rattle.utoipa_base.specs.Extensions.{is_extension, extension_members, extensions_of, some_if_any, members_or_none}
 use Rattle.utoipa_base.specs.Reading.{both, both_entries, only_if, Part, part_is_null, part_reads, Parts, part_name, named_part, part, entry_parts, empty_doc, fits, read_rows, read_table, read_items, read_entries, is_named, read_schema, read_ref_or, text_at, read_alternative, read_tagged, read_api_key, read_scheme, first_that_fits, read_flow, read_flows, read_null, read_boolean, numeral_doc, read_number, read_word, read_format, read_string, read_array, read_object, reader, item_readers, parts, read}
-use Rattle.utoipa_base.specs.Writing.{write, write_items, write_entries, write_rows, left_out, put_unless, merge_member, merge_members, with_member}
+use Rattle.utoipa_base.specs.Writing.{write, write_items, write_entries, put_written, write_rows, left_out, put_unless, merge_member, merge_members, with_member}
+use Rattle.utoipa_base.specs.ByName.{put_entry, put_entries, by_name}
 use Rattle.utoipa_base.specs.WellFormed.{has_fraction, docs_have_fraction, entries_have_fraction, IsPlain}
 use Rattle.utoipa_base.proofs.BoolFacts.{or_first, or_second}
 use Rattle.utoipa_base.proofs.Results.{if_is, if_map, if_made, if_then, if_else, if_only, by_order}
@@ -149,6 +150,20 @@ unfolding entries_have_fraction
 entries_plain k [] h = refl
 entries_plain k (p ∷ ps) h = both_entries_plain (part_name p) (part_reads (named_part p) k) (read_entries k ps) (h.0 k) (entries_plain k ps h.1)
 
+-- entries, with one put among them
+put_entry_plain : (k : List ℕ) (d : Doc) (es : Entries) → IsPlain d → EntriesPlain es → EntriesPlain (put_entry k d es)
+unfolding entries_have_fraction
+put_entry_plain k d no_entries g h = or_false _ _ g refl
+put_entry_plain k d (entry l e es) g h =
+    by_order EntriesPlain (slice_cmp nat_cmp k l) (entry k d (entry l e es)) (entry l d es) (entry l e (put_entry k d es))
+    (or_false _ _ g h) (or_false _ _ g (or_second _ _ h)) (or_false _ _ (or_first _ _ h) (put_entry_plain k d es g (or_second _ _ h)))
+
+-- entries, with others put among them
+put_entries_plain : (es fs : Entries) → EntriesPlain es → EntriesPlain fs → EntriesPlain (put_entries es fs)
+unfolding entries_have_fraction
+put_entries_plain no_entries fs g h = h
+put_entries_plain (entry k d es) fs g h = put_entries_plain es (put_entry k d fs) (or_second _ _ g) (put_entry_plain k d fs (or_first _ _ g) h)
+
 -- the members that are no extensions, with one more
 kept_parts : (b : Bool) (p : List ℕ × Part) (ps : Parts) → ReadsPlain (part_reads (named_part p)) → PartsPlain ps → PartsPlain (cond b ps (p ∷ ps))
 kept_parts true p ps g h = h
@@ -174,6 +189,7 @@ empty_plain text = refl
 empty_plain flag = refl
 empty_plain (list_of k) = refl
 empty_plain (map_of k) = refl
+empty_plain (ordered_map_of k) = refl
 empty_plain schema_type = refl
 empty_plain k = refl
 
@@ -310,6 +326,8 @@ object_plain : (ms : Members) (ps : Parts) → MembersPlain ms → PartsPlain ps
 unfolding has_fraction
 object_plain ms ps g h any = g
 object_plain ms ps g h (map_of k) = if_map EntriesPlain IsPlain map_doc (λ x p. p) (read_entries k ps) (entries_plain k ps h)
+object_plain ms ps g h (ordered_map_of k) =
+    if_map EntriesPlain IsPlain (λ es. ordered_map_doc (by_name es)) (λ es p. put_entries_plain es no_entries p refl) (read_entries k ps) (entries_plain k ps h)
 object_plain ms ps g h (entries_of k) =
     if_map EntriesPlain IsPlain (λ es. entries_doc es (extensions_of true ms)) (λ x p. or_false _ _ p (extensions_plain true ms g)) (read_entries k (entry_parts ps)) (entries_plain k (entry_parts ps) (entry_parts_plain ps h))
 object_plain ms ps g h (ref_or k) = ref_or_plain k (read_object ms ps k) ms ps g h (object_plain ms ps g h k)
@@ -389,7 +407,7 @@ merge_members_plain no_members ms g h = h
 merge_members_plain (member k d es) ms g h = merge_member_plain k d (merge_members es) (or_first _ _ g) (λ ns q. merge_members_plain es ns (or_second _ _ g) q) ms h
 
 mutual
-  unfolding has_fraction docs_have_fraction entries_have_fraction write write_items write_entries write_rows
+  unfolding has_fraction docs_have_fraction entries_have_fraction write write_items write_entries put_written write_rows
 
   -- a plain document's written tree is plain
   pub write_plain : (d : Doc) → has_fraction d ≡ false → has_float (write d) ≡ false
@@ -412,6 +430,7 @@ mutual
   write_plain (flow_doc d) h = write_plain d h
   write_plain (list_doc ds) h = write_items_plain ds h
   write_plain (map_doc es) h = write_entries_plain es h
+  write_plain (ordered_map_doc es) h = put_written_plain es no_members h refl
   write_plain (entries_doc es e) h = merge_members_plain (write_entries es) (members_or_none e) (write_entries_plain es (or_first _ _ h)) (or_second _ _ h)
   write_plain (table_doc n ds e) h = write_rows_plain ds (table n) (members_or_none e) (or_first _ _ h) (or_second _ _ h)
 
@@ -424,6 +443,11 @@ mutual
   write_entries_plain : (es : Entries) → EntriesPlain es → MembersPlain (write_entries es)
   write_entries_plain no_entries h = refl
   write_entries_plain (entry k d es) h = or_false _ _ (write_plain d (or_first _ _ h)) (write_entries_plain es (or_second _ _ h))
+
+  -- plain entries put among plain members
+  put_written_plain : (es : Entries) (ms : Members) → EntriesPlain es → MembersPlain ms → MembersPlain (put_written es ms)
+  put_written_plain no_entries ms g h = h
+  put_written_plain (entry k d es) ms g h = put_written_plain es (put k (write d) ms) (or_second _ _ g) (put_plain k (write d) ms (write_plain d (or_first _ _ g)) h)
 
   -- plain fields among plain members
   write_rows_plain : (ds : Docs) (rs : List Row) (ms : Members) → ArePlain ds → MembersPlain ms → MembersPlain (write_rows ds rs ms)

@@ -3,20 +3,22 @@ use Rattle.std.proofs.Common.{◌≡◌, ℕ, ℤ, pos, negsuc, List, [], ◌∷
 use Rattle.std.proofs.lemmas.Slice.Eq.{bytes_eq-Decides}
 use Rattle.std.specs.Prelude.{codes}
 use Rattle.std.specs.Str.{bytes_eq}
-use Rattle.serde_json.specs.Data.{Data, null, boolean, number, string, array, object, Members}
+use Rattle.serde_json.specs.Data.{Data, null, boolean, number, string, array, object, Members, no_members, put}
 use Rattle.serde_json.specs.Find.{get_member}
-use Rattle.utoipa_base.specs.Kinds.{ObjectType, reference_object, type_word, Kind, text, flag, whole, numeral, any, word_of, version, list_of, map_of, entries_of, named, schema, schema_type, schema_format, array_items, additional_properties, flows, Mark, required, optional, or_null, defaulted, Row}
+use Rattle.utoipa_base.specs.Kinds.{ObjectType, reference_object, type_word, Kind, text, flag, whole, numeral, any, word_of, version, list_of, map_of, ordered_map_of, entries_of, named, schema, schema_type, schema_format, array_items, additional_properties, flows, Mark, required, optional, or_null, defaulted, Row}
 use Rattle.utoipa_base.specs.Version.{read_version, is_version}
 use Rattle.utoipa_base.specs.Choices.{chosen, flow_keys, is_schema_type}
-use Rattle.utoipa_base.specs.Docs.{Doc, text_doc, flag_doc, whole_doc, int_doc, uint_doc, tree_doc, word_doc, custom_doc, types_doc, any_value_doc, none_doc, some_doc, ref_doc, own_doc, schema_doc, tagged_doc, flow_doc, list_doc, map_doc, entries_doc, table_doc, Docs, no_docs, doc, Entries, no_entries, entry}
+use Rattle.utoipa_base.specs.Docs.{Doc, text_doc, flag_doc, whole_doc, int_doc, uint_doc, tree_doc, word_doc, custom_doc, types_doc, any_value_doc, none_doc, some_doc, ref_doc, own_doc, schema_doc, tagged_doc, flow_doc, list_doc, map_doc, ordered_map_doc, entries_doc, table_doc, Docs, no_docs, doc, Entries, no_entries, entry}
 use Rattle.utoipa_base.specs.Tables.{table, has_extensions}
 use Rattle.utoipa_base.specs.Extensions.{extensions_of, some_if_any, members_or_none}
 use Rattle.utoipa_base.specs.Reading.{reader, item_readers, parts, read, read_items, read_entries, read_flows, read_flow, read_rows, read_word, both_entries, is_null, empty_doc}
-use Rattle.utoipa_base.specs.Writing.{write, write_items, write_entries, write_rows, left_out, is_none, is_empty, put_row, merge_members}
+use Rattle.utoipa_base.specs.Writing.{write, write_items, write_entries, put_written, write_rows, left_out, is_none, is_empty, put_row, merge_members}
 use Rattle.utoipa_base.specs.Fields.{field_of}
+use Rattle.utoipa_base.specs.ByName.{put_entry, put_entries, by_name}
 use Rattle.utoipa_base.specs.NormalForm.{normal_form, normal_docs, normal_entries, normal_some}
 use Rattle.utoipa_base.specs.Shape.{Extends, Place, value_of, option_of, flow_place, field_place, flag_fits, word_fits, own_kind, choices_of, entry_place, IsOf, ItemsOf, EntriesOf, RowsOf}
 use Rattle.utoipa_base.specs.WellFormed.{names_no_extension, KeyOf, AllExtensions, IsNoReference, IsUnambiguous, AreUnambiguous, AreUnambiguousEntries}
+use Rattle.utoipa_base.proofs.ByName.{by_name_twice, read_put}
 use Rattle.utoipa_base.proofs.TableNames.{may_be_empty, has_empty, are_apart, first_empty, first_once, others_apart, table_apart}
 use Rattle.utoipa_base.proofs.WrittenMembers.{stands, fits-part, both_fit, write_rows-same, Lacks, lacks_extensions, lacks_put, write_rows-extension, some_if_any-normal, extensions-normal, merge-extensions, merge-entries}
 use Rattle.utoipa_base.proofs.Alternatives.{schema_reads, types_read, ref_reads, own_reads, no_reference, tagged_reads}
@@ -133,6 +135,8 @@ empty_back (list_doc no_docs) k m i e = let same : k ≡ list_of i.0 = (let h : 
 empty_back (list_doc (doc d ds)) k m i e = absurd (true≢false (sym e))
 empty_back (map_doc no_entries) k m i e = empty_map k i.0 m i.1
 empty_back (map_doc (entry name d es)) k m i e = absurd (true≢false (sym e))
+empty_back (ordered_map_doc no_entries) k m i e = let same : k ≡ ordered_map_of i.0 = (let h : value_of k ≡ value_of (ordered_map_of i.0) = i.1 in cc) in ap empty_doc (sym same)
+empty_back (ordered_map_doc (entry name d es)) k m i e = absurd (true≢false (sym e))
 empty_back d k m i e = absurd (true≢false (sym e))
 
 -- a field that is left out where it is empty reads back
@@ -171,6 +175,7 @@ as_table (tagged_doc name word d) n i = cc
 as_table (flow_doc d) n i = cc
 as_table (list_doc ds) n i = cc
 as_table (map_doc es) n i = cc
+as_table (ordered_map_doc es) n i = cc
 as_table (entries_doc es e) n i = cc
 as_table (table_doc m ds e) n i = (ds, e, (let h : value_of (named n) ≡ value_of (named m) = i.0 in let same : m ≡ n = cc in ap (λ l. table_doc l ds e) same))
 
@@ -239,6 +244,11 @@ map_back es (value_of flows) q o values of_flows i =
     ap (option_map map_doc) (of_flows (subst (λ (x : Place). EntriesOf es x) same i))
 map_back es p q o values of_flows i = cc
 
+-- a map that keeps its order reads back in the order of the names
+ordered_map_back : (es : Entries) (k : Kind) → read_entries k (parts (put_written es no_members)) ≡ Some (by_name (normal_entries es)) → Back (ordered_map_doc es) (value_of (ordered_map_of k))
+unfolding reader write normal_form
+ordered_map_back es k h = ap (option_map (λ fs. ordered_map_doc (by_name fs))) h ∙ ap (λ fs. Some (ordered_map_doc fs)) (by_name_twice (normal_entries es))
+
 -- entries with extensions read back
 entries_doc_back : (es : Entries) (e : Option Members) (k : Kind) → names_no_extension es ≡ true → AllExtensions e → read_entries k (parts (write_entries es)) ≡ Some (normal_entries es)
     → Back (entries_doc es e) (value_of (entries_of k))
@@ -262,7 +272,7 @@ table_back n ds e x all h =
 -- ---- everything
 
 mutual
-  unfolding IsOf ItemsOf EntriesOf RowsOf IsUnambiguous AreUnambiguous AreUnambiguousEntries normal_form normal_docs normal_entries write write_items write_entries write_rows reader item_readers parts
+  unfolding IsOf ItemsOf EntriesOf RowsOf IsUnambiguous AreUnambiguous AreUnambiguousEntries normal_form normal_docs normal_entries write write_items write_entries put_written write_rows reader item_readers parts
 
   -- a well-formed document reads back at its place
   back : (d : Doc) (p : Place) → IsOf d p → IsUnambiguous d → Back d p
@@ -285,6 +295,7 @@ mutual
   back (flow_doc d) p i t = at_place (flow_doc d) p flow_place i.1 (flow_back d i.0 i.3 (back d (value_of (named i.0)) i.3 t))
   back (list_doc ds) p i t = at_place (list_doc ds) p (value_of (list_of i.0)) i.1 (ap (option_map list_doc) (items_back ds i.0 i.2 t))
   back (map_doc es) p i t = map_back es p i.0 i.1 (λ k h. entries_back es k h t) (λ h. flows_back es h t) i.2
+  back (ordered_map_doc es) p i t = at_place (ordered_map_doc es) p (value_of (ordered_map_of i.0)) i.1 (ordered_map_back es i.0 (puts_back es i.0 no_members no_entries i.2 t refl))
   back (entries_doc es e) p i t = at_place (entries_doc es e) p (value_of (entries_of i.0)) i.1 (entries_doc_back es e i.0 t.1 t.2 (entries_back es i.0 i.2 t.0))
   back (table_doc n ds e) p i t =
       at_place (table_doc n ds e) p (value_of (named n)) i.0
@@ -299,6 +310,13 @@ mutual
   entries_back : (es : Entries) (k : Kind) → EntriesOf es (value_of k) → AreUnambiguousEntries es → read_entries k (parts (write_entries es)) ≡ Some (normal_entries es)
   entries_back no_entries k i t = refl
   entries_back (entry name d es) k i t = both_entries_fit name _ _ (normal_form d) (normal_entries es) (back d (value_of k) i.0 t.0) (entries_back es k i.1 t.2)
+
+  -- the entries of a map that keeps its order read back, put among those before them
+  puts_back : (es : Entries) (k : Kind) (ms : Members) (fs : Entries) → EntriesOf es (value_of k) → AreUnambiguousEntries es → read_entries k (parts ms) ≡ Some fs
+      → read_entries k (parts (put_written es ms)) ≡ Some (put_entries (normal_entries es) fs)
+  puts_back no_entries k ms fs i t h = h
+  puts_back (entry name d es) k ms fs i t h =
+      puts_back es k (put name (write d) ms) (put_entry name (normal_form d) fs) i.1 t.2 (read_put k name (write d) (normal_form d) (back d (value_of k) i.0 t.0) ms fs h)
 
   -- flows read back, each under its own key
   flows_back : (es : Entries) → EntriesOf es flow_place → AreUnambiguousEntries es → read_flows (parts (write_entries es)) ≡ Some (normal_entries es)

@@ -1,7 +1,7 @@
 -- The names of the tables' rows: each once, none an extension's.
 use Rattle.std.proofs.Common.{◌≡◌, ℕ, List, [], ◌∷◌, Bool, true, false, not, ◌&&◌, ◌||◌, refl}
 use Rattle.std.specs.Str.{bytes_eq}
-use Rattle.utoipa_base.specs.Kinds.{ObjectType, open_api_object, info_object, contact_object, license_object, server_object, server_variable_object, components_object, path_item_object, operation_object, external_docs_object, parameter_object, request_body_object, media_type_object, encoding_object, response_object, example_object, link_object, header_object, tag_object, reference_object, discriminator_object, xml_object, one_of_schema, all_of_schema, any_of_schema, array_schema, object_schema, api_key_scheme, http_scheme, open_id_connect_scheme, mutual_tls_scheme, oauth2_scheme, implicit_flow, password_flow, client_credentials_flow, authorization_code_flow, device_authorization_flow, scopes_object, Kind, text, flag, list_of, map_of, schema_type, Mark, required, defaulted, Row}
+use Rattle.utoipa_base.specs.Kinds.{ObjectType, open_api_object, info_object, contact_object, license_object, server_object, server_variable_object, components_object, path_item_object, operation_object, external_docs_object, parameter_object, request_body_object, media_type_object, encoding_object, response_object, example_object, link_object, header_object, tag_object, reference_object, discriminator_object, xml_object, one_of_schema, all_of_schema, any_of_schema, array_schema, object_schema, api_key_scheme, http_scheme, open_id_connect_scheme, mutual_tls_scheme, oauth2_scheme, implicit_flow, password_flow, client_credentials_flow, authorization_code_flow, device_authorization_flow, scopes_object, Kind, text, flag, list_of, map_of, ordered_map_of, schema_type, Mark, required, defaulted, Row}
 use Rattle.utoipa_base.specs.Tables.{table}
 use Rattle.utoipa_base.specs.Extensions.{is_extension}
 use Rattle.utoipa_base.proofs.BoolFacts.{and_first, and_second, not_true}
@@ -27,6 +27,7 @@ has_empty text = true
 has_empty flag = true
 has_empty (list_of k) = true
 has_empty (map_of k) = true
+has_empty (ordered_map_of k) = true
 has_empty schema_type = true
 has_empty k = false
 

@@ -3,10 +3,12 @@ use Rattle.std.proofs.Common.{◌≡◌, ℕ, ℤ, pos, negsuc, ◌^◌, List, B
 use Rattle.serde_json.specs.Data.{Data, null, boolean, number, string, array, object, Members, no_members, member}
 use Rattle.utoipa_base.specs.Kinds.{known_format}
 use Rattle.utoipa_base.specs.Words.{is_word}
-use Rattle.utoipa_base.specs.Docs.{Doc, text_doc, flag_doc, whole_doc, int_doc, uint_doc, tree_doc, word_doc, custom_doc, types_doc, any_value_doc, none_doc, some_doc, ref_doc, own_doc, schema_doc, tagged_doc, flow_doc, list_doc, map_doc, entries_doc, table_doc, Docs, no_docs, doc, Entries, no_entries, entry}
+use Rattle.utoipa_base.specs.Docs.{Doc, text_doc, flag_doc, whole_doc, int_doc, uint_doc, tree_doc, word_doc, custom_doc, types_doc, any_value_doc, none_doc, some_doc, ref_doc, own_doc, schema_doc, tagged_doc, flow_doc, list_doc, map_doc, ordered_map_doc, entries_doc, table_doc, Docs, no_docs, doc, Entries, no_entries, entry}
 use Rattle.utoipa_base.specs.Reading.{is_null, read_format, numeral_doc}
 use Rattle.utoipa_base.specs.Writing.{write, with_member}
+use Rattle.utoipa_base.specs.ByName.{by_name}
 use Rattle.utoipa_base.specs.NormalForm.{normal_form, normal_docs, normal_entries, normal_some, normal_extensions}
+use Rattle.utoipa_base.proofs.ByName.{by_name-normal}
 
 -- ---- what is written as null
 
@@ -69,6 +71,7 @@ null_normal (tagged_doc name word d) = with_null name (string word) (write (norm
 null_normal (flow_doc d) = null_normal d
 null_normal (list_doc ds) = refl
 null_normal (map_doc es) = refl
+null_normal (ordered_map_doc es) = refl
 null_normal (entries_doc es e) = refl
 null_normal (table_doc n ds e) = refl
 
@@ -132,6 +135,7 @@ mutual
   normal_form_twice (flow_doc d) = ap flow_doc (normal_form_twice d)
   normal_form_twice (list_doc ds) = ap list_doc (twice_docs ds)
   normal_form_twice (map_doc es) = ap map_doc (twice_entries es)
+  normal_form_twice (ordered_map_doc es) = ap ordered_map_doc (by_name-normal (normal_entries es) ∙ ap by_name (twice_entries es))
   normal_form_twice (entries_doc es e) = ap (λ xs. entries_doc xs (normal_extensions (normal_extensions e))) (twice_entries es) ∙ ap (entries_doc (normal_entries es)) (twice_extensions e)
   normal_form_twice (table_doc n ds e) = ap (λ xs. table_doc n xs (normal_extensions (normal_extensions e))) (twice_docs ds) ∙ ap (table_doc n (normal_docs ds)) (twice_extensions e)
 

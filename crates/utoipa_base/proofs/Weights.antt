@@ -1,6 +1,6 @@
 -- How large a document is: the measure of what recurs over it. A part weighs less than the whole.
 use Rattle.std.proofs.Common.{◌≡◌, ℕ, zero, suc, ◌+◌, ◌<◌, ◌≤◌, List, [], ◌∷◌, ◌++◌, length, get_or, map, String, Global, ap, arith}
-use Rattle.utoipa_base.specs.Docs.{Doc, text_doc, flag_doc, whole_doc, int_doc, uint_doc, tree_doc, word_doc, custom_doc, types_doc, any_value_doc, none_doc, some_doc, ref_doc, own_doc, tagged_doc, flow_doc, list_doc, map_doc, entries_doc, table_doc, Docs, no_docs, doc, Entries, no_entries, entry, docs_of, entries_of_list}
+use Rattle.utoipa_base.specs.Docs.{Doc, text_doc, flag_doc, whole_doc, int_doc, uint_doc, tree_doc, word_doc, custom_doc, types_doc, any_value_doc, none_doc, some_doc, ref_doc, own_doc, tagged_doc, flow_doc, list_doc, map_doc, ordered_map_doc, entries_doc, table_doc, Docs, no_docs, doc, Entries, no_entries, entry, docs_of, entries_of_list}
 use Rattle.utoipa_base.specs.Docs as docs
 use Rattle.utoipa_base.specs.Kinds.{schema}
 use Rattle.utoipa_base.specs.Refs.{ref_or_doc}
@@ -27,6 +27,7 @@ unfoldable mutual
   weight (flow_doc d) = 1 + weight d
   weight (list_doc ds) = 1 + docs_weight ds
   weight (map_doc es) = 1 + entries_weight es
+  weight (ordered_map_doc es) = 1 + entries_weight es
   weight (entries_doc es e) = 1 + entries_weight es
   weight (table_doc n ds e) = 1 + docs_weight ds
 

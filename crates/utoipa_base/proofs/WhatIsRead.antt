@@ -5,16 +5,18 @@ use Rattle.std.specs.List.{list_any}
 use Rattle.std.specs.Cmp.Lexicographic.{slice_cmp}
 use Rattle.serde_json.specs.Data.{Num, unsigned, negative, float, Data, null, boolean, number, string, array, object, Items, no_items, item, Members, no_members, member}
 use Rattle.serde_json.specs.Find.{as_integer, as_u64}
-use Rattle.utoipa_base.specs.Kinds.{ObjectType, reference_object, one_of_schema, all_of_schema, any_of_schema, array_schema, object_schema, type_word, known_format, Kind, text, flag, whole, numeral, any, word_of, version, list_of, map_of, entries_of, ref_or, named, schema, schema_type, schema_format, array_items, additional_properties, security_scheme, api_key, flows, Mark, required, optional, or_null, defaulted, Row}
+use Rattle.utoipa_base.specs.Kinds.{ObjectType, reference_object, one_of_schema, all_of_schema, any_of_schema, array_schema, object_schema, type_word, known_format, Kind, text, flag, whole, numeral, any, word_of, version, list_of, map_of, ordered_map_of, entries_of, ref_or, named, schema, schema_type, schema_format, array_items, additional_properties, security_scheme, api_key, flows, Mark, required, optional, or_null, defaulted, Row}
 use Rattle.utoipa_base.specs.Words.{is_word}
 use Rattle.utoipa_base.specs.Version.{read_version}
 use Rattle.utoipa_base.specs.Choices.{chosen, scheme_types, api_key_places, flow_keys, schema_keywords}
-use Rattle.utoipa_base.specs.Docs.{Doc, whole_doc, word_doc, types_doc, none_doc, some_doc, ref_doc, own_doc, schema_doc, tagged_doc, flow_doc, list_doc, map_doc, entries_doc, table_doc, Docs, doc, Entries, entry}
+use Rattle.utoipa_base.specs.Docs.{Doc, whole_doc, word_doc, types_doc, none_doc, some_doc, ref_doc, own_doc, schema_doc, tagged_doc, flow_doc, list_doc, map_doc, ordered_map_doc, entries_doc, table_doc, Docs, doc, Entries, entry}
 use Rattle.utoipa_base.specs.Tables.{table, has_extensions}
 use Rattle.utoipa_base.specs.Extensions.{is_extension, extension_members, extensions_of, some_if_any}
 use Rattle.utoipa_base.specs.Reading.{both, both_entries, only_if, Part, part_is_null, part_reads, Parts, part_name, named_part, part, entry_parts, is_null, empty_doc, fits, read_rows, read_table, read_items, read_entries, is_named, read_schema, read_ref_or, text_at, read_alternative, read_tagged, read_api_key, read_scheme, first_that_fits, read_flow, read_flows, read_null, read_boolean, numeral_doc, read_number, read_word, read_string, read_array, read_object, reader, item_readers, parts, read}
 use Rattle.utoipa_base.specs.Writing.{write}
+use Rattle.utoipa_base.specs.ByName.{by_name}
 use Rattle.utoipa_base.specs.NormalForm.{normal_form, normal_docs, normal_entries, normal_some, normal_extensions}
+use Rattle.utoipa_base.proofs.ByName.{by_name-normal}
 use Rattle.utoipa_base.proofs.Results.{if_is, if_map, if_made, if_then, if_else, if_only, by_order}
 use Rattle.utoipa_base.proofs.Twice.{uint_written, format_written, with_null, twice_uint, twice_format}
 
@@ -174,6 +176,7 @@ empty_normal text = refl
 empty_normal flag = refl
 empty_normal (list_of k) = refl
 empty_normal (map_of k) = refl
+empty_normal (ordered_map_of k) = refl
 empty_normal schema_type = refl
 empty_normal k = refl
 
@@ -300,6 +303,8 @@ object_stays : (ms : Members) (ps : Parts) → PartsReadNormal ps → ReadsNorma
 unfolding normal_form write
 object_stays ms ps h any = (refl, λ n. refl)
 object_stays ms ps h (map_of k) = if_map EntriesNormal (Stays false) map_doc (λ x p. (ap map_doc p, λ n. refl)) (read_entries k ps) (entries_normal k ps h)
+object_stays ms ps h (ordered_map_of k) =
+    if_map EntriesNormal (Stays false) (λ es. ordered_map_doc (by_name es)) (λ es p. (ap ordered_map_doc (by_name-normal es ∙ ap by_name p), λ n. refl)) (read_entries k ps) (entries_normal k ps h)
 object_stays ms ps h (entries_of k) =
     let e = extensions_of true ms in
     if_map EntriesNormal (Stays false) (λ es. entries_doc es e) (λ es p. (ap (λ xs. entries_doc xs (normal_extensions e)) p ∙ ap (entries_doc es) (extensions_normal true ms), λ n. refl))

@@ -2,9 +2,9 @@
 use Rattle.std.proofs.Common.{◌≡◌, ℕ, List, [], ◌∷◌, Bool, true, false, ◌&&◌, cond, Some, refl, sym, ap, ◌∙◌, true≢false, arith}
 use Rattle.std.specs.Prelude.{codes}
 use Rattle.std.specs.Str.{bytes_eq}
-use Rattle.utoipa_base.specs.Kinds.{ObjectType, open_api_object, components_object, path_item_object, operation_object, parameter_object, request_body_object, media_type_object, encoding_object, response_object, header_object, one_of_schema, all_of_schema, any_of_schema, array_schema, object_schema, Kind, list_of, map_of, entries_of, ref_or, named, schema, array_items, additional_properties, security_scheme, api_key, flows, Mark, required, optional, or_null, defaulted, Row}
+use Rattle.utoipa_base.specs.Kinds.{ObjectType, open_api_object, components_object, path_item_object, operation_object, parameter_object, request_body_object, media_type_object, encoding_object, response_object, header_object, one_of_schema, all_of_schema, any_of_schema, array_schema, object_schema, Kind, list_of, map_of, ordered_map_of, entries_of, ref_or, named, schema, array_items, additional_properties, security_scheme, api_key, flows, Mark, required, optional, or_null, defaulted, Row}
 use Rattle.utoipa_base.specs.Choices.{chosen, scheme_types, api_key_places, flow_keys}
-use Rattle.utoipa_base.specs.Docs.{Doc, text_doc, flag_doc, whole_doc, int_doc, uint_doc, tree_doc, word_doc, custom_doc, types_doc, any_value_doc, none_doc, some_doc, ref_doc, own_doc, schema_doc, tagged_doc, flow_doc, list_doc, map_doc, entries_doc, table_doc, Docs, no_docs, doc, Entries, no_entries, entry}
+use Rattle.utoipa_base.specs.Docs.{Doc, text_doc, flag_doc, whole_doc, int_doc, uint_doc, tree_doc, word_doc, custom_doc, types_doc, any_value_doc, none_doc, some_doc, ref_doc, own_doc, schema_doc, tagged_doc, flow_doc, list_doc, map_doc, ordered_map_doc, entries_doc, table_doc, Docs, no_docs, doc, Entries, no_entries, entry}
 use Rattle.utoipa_base.specs.Tables.{table}
 use Rattle.utoipa_base.specs.Shape.{Place, value_of, option_of, flow_place, field_place, own_kind, choices_of, entry_place, IsOf, ItemsOf, EntriesOf, RowsOf}
 use Rattle.utoipa_base.specs.Values.{reference_schema_count, schema_count, docs_schema_count, entries_schema_count}
@@ -35,6 +35,7 @@ type_holds_no_schema n = true
 abbrev pub holds_no_schema : Kind → Bool
 holds_no_schema (list_of k) = holds_no_schema k
 holds_no_schema (map_of k) = holds_no_schema k
+holds_no_schema (ordered_map_of k) = holds_no_schema k
 holds_no_schema (entries_of k) = holds_no_schema k
 holds_no_schema (ref_or k) = holds_no_schema k
 holds_no_schema (named n) = type_holds_no_schema n
@@ -153,6 +154,7 @@ mutual
   place_counts_none (flow_doc d) p h i = place_counts_none d (value_of (named i.0)) (chosen_is type_holds_no_schema i.2.0 flow_keys i.0 refl i.2.1) i.3
   place_counts_none (list_doc ds) p h i = items_count_none ds i.0 (ap place_holds_no_schema (sym i.1) ∙ h) i.2
   place_counts_none (map_doc es) p h i = entries_count_none es i.0 (entries_place p i.0 h i.1) i.2
+  place_counts_none (ordered_map_doc es) p h i = entries_count_none es (value_of i.0) (ap place_holds_no_schema (sym i.1) ∙ h) i.2
   place_counts_none (entries_doc es e) p h i = entries_count_none es (value_of i.0) (ap place_holds_no_schema (sym i.1) ∙ h) i.2
   place_counts_none (table_doc n ds e) p h i = rows_count_none ds (table n) (rows_of_type n (ap place_holds_no_schema (sym i.0) ∙ h)) i.1
 

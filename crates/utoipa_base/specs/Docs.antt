@@ -36,6 +36,8 @@ mutual
     flow_doc : Doc → Doc
     list_doc : Docs → Doc
     map_doc : Entries → Doc
+    -- a map that keeps the order of its entries
+    ordered_map_doc : Entries → Doc
     -- an object's map, and its extensions
     entries_doc : Entries → Option Members → Doc
     -- an object's fields by the rows of its table, and its extensions

@@ -70,6 +70,8 @@ pub data Kind : Type 0 where
   list_of : Kind → Kind
   -- an object, as a map from the names of its members
   map_of : Kind → Kind
+  -- an object, as a map that keeps the order in which its entries were put
+  ordered_map_of : Kind → Kind
   -- an object with extensions, whose other members are a map
   entries_of : Kind → Kind
   -- a reference, or else the kind

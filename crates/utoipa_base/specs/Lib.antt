@@ -3,6 +3,7 @@ pub mod Words
 pub mod Version
 pub mod Choices
 pub mod Docs
+pub mod ByName
 pub mod Tables
 pub mod Extensions
 pub mod Merging

@@ -4,8 +4,9 @@ use Rattle.std.specs.Prelude.{pos, Bool, true, false, Option, None, Some}
 use Rattle.serde_json.specs.Data.{Members, no_members, member}
 use Rattle.utoipa_base.specs.Kinds.{known_format}
 use Rattle.utoipa_base.specs.Words.{is_word}
-use Rattle.utoipa_base.specs.Docs.{Doc, text_doc, flag_doc, whole_doc, int_doc, uint_doc, tree_doc, word_doc, custom_doc, types_doc, any_value_doc, none_doc, some_doc, ref_doc, own_doc, schema_doc, tagged_doc, flow_doc, list_doc, map_doc, entries_doc, table_doc, Docs, no_docs, doc, Entries, no_entries, entry}
+use Rattle.utoipa_base.specs.Docs.{Doc, text_doc, flag_doc, whole_doc, int_doc, uint_doc, tree_doc, word_doc, custom_doc, types_doc, any_value_doc, none_doc, some_doc, ref_doc, own_doc, schema_doc, tagged_doc, flow_doc, list_doc, map_doc, ordered_map_doc, entries_doc, table_doc, Docs, no_docs, doc, Entries, no_entries, entry}
 use Rattle.utoipa_base.specs.Reading.{is_null, numeral_doc, read_format}
+use Rattle.utoipa_base.specs.ByName.{by_name}
 use Rattle.utoipa_base.specs.Writing.{write}
 
 -- no extensions are none
@@ -40,6 +41,7 @@ unfoldable mutual
   normal_form (flow_doc d) = flow_doc (normal_form d)
   normal_form (list_doc ds) = list_doc (normal_docs ds)
   normal_form (map_doc es) = map_doc (normal_entries es)
+  normal_form (ordered_map_doc es) = ordered_map_doc (by_name (normal_entries es))
   normal_form (entries_doc es e) = entries_doc (normal_entries es) (normal_extensions e)
   normal_form (table_doc n ds e) = table_doc n (normal_docs ds) (normal_extensions e)
 

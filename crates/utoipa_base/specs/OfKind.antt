@@ -3,9 +3,10 @@ use Rattle.std.specs.Prelude.{ℕ, List, [], ◌∷◌, Bool, true, false, Optio
 use Rattle.std.specs.declared.alloc.Global.{Global}
 use Rattle.std.specs.BTreeMap.{BTreeMap}
 use Rattle.std.specs.Prelude.{Vec}
+use Rattle.indexmap.specs.IndexMap.{IndexMap}
 use Rattle.serde_json.specs.Data.{Members}
 use Rattle.serde_json.specs.declared.value.Value.{Value}
-use Rattle.utoipa_base.specs.Kinds.{ObjectType, reference_object, Kind, text, flag, any, whole, numeral, list_of, map_of, ref_or, named, Row}
+use Rattle.utoipa_base.specs.Kinds.{ObjectType, reference_object, Kind, text, flag, any, whole, numeral, list_of, map_of, ordered_map_of, ref_or, named, Row}
 use Rattle.utoipa_base.specs.Docs.{Doc, flag_doc, whole_doc, table_doc, Docs, no_docs, doc, docs_of, entries_of_list}
 use Rattle.utoipa_base.specs.Tables.{table, has_extensions}
 use Rattle.utoipa_base.specs.Shape.{Place, value_of, option_of, field_place, IsOf, ItemsOf, EntriesOf, RowsOf, Extends}
@@ -78,6 +79,10 @@ entries_of_kind f p each (e ∷ es) = (each e.1, entries_of_kind f p each es)
 pub map_of_kind : {X : Type 0} (f : X → Doc) (k : Kind) → ((x : X) → IsOf (f x) (value_of k)) → (m : BTreeMap (String Global) X) → IsOf (views.map_of_docs f m) (value_of (map_of k))
 unfolding IsOf
 map_of_kind f k each m = (value_of k, refl, entries_of_kind f (value_of k) each m.entries)
+
+pub ordered_map_of_kind : {X S : Type 0} (f : X → Doc) (k : Kind) → ((x : X) → IsOf (f x) (value_of k)) → (m : IndexMap (String Global) X S) → IsOf (views.ordered_map_of_docs f m) (value_of (ordered_map_of k))
+unfolding IsOf
+ordered_map_of_kind f k each m = (k, refl, entries_of_kind f (value_of k) each m.entries)
 
 -- ---- an object's fields, row by row
 

@@ -5,11 +5,12 @@ use Rattle.std.specs.Ordering.{nat_cmp, match_ordering}
 use Rattle.std.specs.Cmp.Lexicographic.{slice_cmp}
 use Rattle.serde_json.specs.Data.{Num, Data, null, boolean, number, string, array, object, Items, no_items, item, Members, no_members, member}
 use Rattle.serde_json.specs.Find.{as_u64, as_integer, as_str, get_member}
-use Rattle.utoipa_base.specs.Kinds.{ObjectType, reference_object, one_of_schema, all_of_schema, any_of_schema, array_schema, object_schema, type_word, known_format, Kind, text, flag, whole, numeral, any, word_of, version, list_of, map_of, entries_of, ref_or, named, schema, schema_type, schema_format, array_items, additional_properties, security_scheme, api_key, flows, Mark, required, optional, or_null, defaulted, Row}
+use Rattle.utoipa_base.specs.Kinds.{ObjectType, reference_object, one_of_schema, all_of_schema, any_of_schema, array_schema, object_schema, type_word, known_format, Kind, text, flag, whole, numeral, any, word_of, version, list_of, map_of, ordered_map_of, entries_of, ref_or, named, schema, schema_type, schema_format, array_items, additional_properties, security_scheme, api_key, flows, Mark, required, optional, or_null, defaulted, Row}
 use Rattle.utoipa_base.specs.Words.{is_word}
 use Rattle.utoipa_base.specs.Version.{read_version}
 use Rattle.utoipa_base.specs.Choices.{chosen, scheme_types, api_key_places, flow_keys, schema_keywords}
-use Rattle.utoipa_base.specs.Docs.{Doc, text_doc, flag_doc, whole_doc, int_doc, uint_doc, tree_doc, word_doc, custom_doc, types_doc, any_value_doc, none_doc, some_doc, ref_doc, own_doc, schema_doc, tagged_doc, flow_doc, list_doc, map_doc, entries_doc, table_doc, Docs, no_docs, doc, Entries, no_entries, entry}
+use Rattle.utoipa_base.specs.Docs.{Doc, text_doc, flag_doc, whole_doc, int_doc, uint_doc, tree_doc, word_doc, custom_doc, types_doc, any_value_doc, none_doc, some_doc, ref_doc, own_doc, schema_doc, tagged_doc, flow_doc, list_doc, map_doc, ordered_map_doc, entries_doc, table_doc, Docs, no_docs, doc, Entries, no_entries, entry}
+use Rattle.utoipa_base.specs.ByName.{by_name}
 use Rattle.utoipa_base.specs.Tables.{table, has_extensions}
 use Rattle.utoipa_base.specs.Extensions.{is_extension, extensions_of}
 
@@ -88,6 +89,7 @@ empty_doc text = text_doc []
 empty_doc flag = flag_doc false
 empty_doc (list_of k) = list_doc no_docs
 empty_doc (map_of k) = map_doc no_entries
+empty_doc (ordered_map_of k) = ordered_map_doc no_entries
 empty_doc schema_type = any_value_doc
 empty_doc k = none_doc
 
@@ -232,6 +234,7 @@ read_array ds rs k = None
 abbrev pub read_object : Members → Parts → Kind → Option Doc
 read_object ms ps any = Some (tree_doc (object ms))
 read_object ms ps (map_of k) = option_map map_doc (read_entries k ps)
+read_object ms ps (ordered_map_of k) = option_map (λ es. ordered_map_doc (by_name es)) (read_entries k ps)
 read_object ms ps (entries_of k) = option_map (λ es. entries_doc es (extensions_of true ms)) (read_entries k (entry_parts ps))
 read_object ms ps (ref_or k) = read_ref_or k (read_object ms ps k) ms ps
 read_object ms ps (named n) = read_table n ms ps

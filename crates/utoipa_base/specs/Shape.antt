@@ -1,11 +1,11 @@
 -- Which documents are of a kind. Every value of a type is of the type's kind.
 use Rattle.std.specs.Prelude.{◌≡◌, ℕ, List, [], ◌∷◌, Bool, true, false, not, Option, None, Some, codes}
 use Rattle.serde_json.specs.Data.{Members}
-use Rattle.utoipa_base.specs.Kinds.{ObjectType, reference_object, type_word, known_format, Kind, text, flag, whole, numeral, any, word_of, version, list_of, map_of, entries_of, ref_or, named, schema, schema_type, schema_format, array_items, additional_properties, security_scheme, api_key, flows, Mark, required, optional, or_null, defaulted, Row}
+use Rattle.utoipa_base.specs.Kinds.{ObjectType, reference_object, type_word, known_format, Kind, text, flag, whole, numeral, any, word_of, version, list_of, map_of, ordered_map_of, entries_of, ref_or, named, schema, schema_type, schema_format, array_items, additional_properties, security_scheme, api_key, flows, Mark, required, optional, or_null, defaulted, Row}
 use Rattle.utoipa_base.specs.Words.{is_word}
 use Rattle.utoipa_base.specs.Version.{is_version}
 use Rattle.utoipa_base.specs.Choices.{chosen, scheme_types, api_key_places, IsFlow, is_schema_type}
-use Rattle.utoipa_base.specs.Docs.{Doc, text_doc, flag_doc, whole_doc, int_doc, uint_doc, tree_doc, word_doc, custom_doc, types_doc, any_value_doc, none_doc, some_doc, ref_doc, own_doc, schema_doc, tagged_doc, flow_doc, list_doc, map_doc, entries_doc, table_doc, Docs, no_docs, doc, Entries, no_entries, entry}
+use Rattle.utoipa_base.specs.Docs.{Doc, text_doc, flag_doc, whole_doc, int_doc, uint_doc, tree_doc, word_doc, custom_doc, types_doc, any_value_doc, none_doc, some_doc, ref_doc, own_doc, schema_doc, tagged_doc, flow_doc, list_doc, map_doc, ordered_map_doc, entries_doc, table_doc, Docs, no_docs, doc, Entries, no_entries, entry}
 use Rattle.utoipa_base.specs.Tables.{table, has_extensions}
 
 -- what may stand somewhere: a value of a kind, such a value or none, or an OAuth flow
@@ -79,6 +79,7 @@ unfoldable mutual
   IsOf (flow_doc d) p = (n : ObjectType) × (p ≡ flow_place) × IsFlow n × IsOf d (value_of (named n))
   IsOf (list_doc ds) p = (k : Kind) × (p ≡ value_of (list_of k)) × ItemsOf ds k
   IsOf (map_doc es) p = (q : Place) × (entry_place p ≡ Some q) × EntriesOf es q
+  IsOf (ordered_map_doc es) p = (k : Kind) × (p ≡ value_of (ordered_map_of k)) × EntriesOf es (value_of k)
   IsOf (entries_doc es e) p = (k : Kind) × (p ≡ value_of (entries_of k)) × EntriesOf es (value_of k)
   IsOf (table_doc n ds e) p = (p ≡ value_of (named n)) × RowsOf ds (table n) × Extends (has_extensions n) e
 

@@ -2,7 +2,7 @@
 -- A comment `not kept` names members of the standard that are dropped on reading, `stricter` what the standard allows and the table does
 -- not fit. By its mark an `optional` member that is null is dropped too, as a `default` or an `example` of null.
 use Rattle.std.specs.Prelude.{ℕ, List, [], ◌∷◌, Bool, true, false, codes}
-use Rattle.utoipa_base.specs.Kinds.{ObjectType, open_api_object, info_object, contact_object, license_object, server_object, server_variable_object, components_object, path_item_object, operation_object, external_docs_object, parameter_object, request_body_object, media_type_object, encoding_object, response_object, example_object, link_object, header_object, tag_object, reference_object, discriminator_object, xml_object, one_of_schema, all_of_schema, any_of_schema, array_schema, object_schema, api_key_scheme, http_scheme, open_id_connect_scheme, mutual_tls_scheme, oauth2_scheme, implicit_flow, password_flow, client_credentials_flow, authorization_code_flow, device_authorization_flow, scopes_object, Kind, text, flag, whole, numeral, any, word_of, parameter_in, parameter_style, http_auth_scheme, version, list_of, map_of, entries_of, ref_or, named, schema, schema_type, schema_format, array_items, additional_properties, security_scheme, flows, Mark, required, optional, or_null, defaulted, Row}
+use Rattle.utoipa_base.specs.Kinds.{ObjectType, open_api_object, info_object, contact_object, license_object, server_object, server_variable_object, components_object, path_item_object, operation_object, external_docs_object, parameter_object, request_body_object, media_type_object, encoding_object, response_object, example_object, link_object, header_object, tag_object, reference_object, discriminator_object, xml_object, one_of_schema, all_of_schema, any_of_schema, array_schema, object_schema, api_key_scheme, http_scheme, open_id_connect_scheme, mutual_tls_scheme, oauth2_scheme, implicit_flow, password_flow, client_credentials_flow, authorization_code_flow, device_authorization_flow, scopes_object, Kind, text, flag, whole, numeral, any, word_of, parameter_in, parameter_style, http_auth_scheme, version, list_of, map_of, ordered_map_of, entries_of, ref_or, named, schema, schema_type, schema_format, array_items, additional_properties, security_scheme, flows, Mark, required, optional, or_null, defaulted, Row}
 
 abbrev pub row : List ℕ → Mark → Kind → Row
 row name mark kind = record { name = name; mark = mark; kind = kind }
@@ -177,7 +177,7 @@ table response_object =
     row (codes "summary") optional text
     ∷ row (codes "description") defaulted text
     ∷ row (codes "headers") defaulted (map_of (ref_or (named header_object)))
-    ∷ row (codes "content") defaulted (map_of (ref_or (named media_type_object)))
+    ∷ row (codes "content") defaulted (ordered_map_of (ref_or (named media_type_object)))
     ∷ row (codes "links") defaulted (map_of (ref_or (named link_object))) ∷ []
 -- Example Object: section 4.8.19
 -- not kept: `dataValue` and `serializedValue` of 3.2

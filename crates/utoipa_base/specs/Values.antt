@@ -5,7 +5,7 @@ use Rattle.std.specs.Prelude.{ℕ, ◌+◌, ◌&&◌, not, List, [], ◌∷◌, 
 use Rattle.serde_json.specs.Data.{Data, null, boolean, number, string, array, object, Items, no_items, item, Members, no_members, member}
 use Rattle.serde_json.specs.Find.{get}
 use Rattle.utoipa_base.specs.Kinds.{Kind, schema}
-use Rattle.utoipa_base.specs.Docs.{Doc, text_doc, flag_doc, whole_doc, int_doc, uint_doc, tree_doc, word_doc, custom_doc, types_doc, any_value_doc, none_doc, some_doc, ref_doc, own_doc, schema_doc, tagged_doc, flow_doc, list_doc, map_doc, entries_doc, table_doc, Docs, no_docs, doc, Entries, no_entries, entry}
+use Rattle.utoipa_base.specs.Docs.{Doc, text_doc, flag_doc, whole_doc, int_doc, uint_doc, tree_doc, word_doc, custom_doc, types_doc, any_value_doc, none_doc, some_doc, ref_doc, own_doc, schema_doc, tagged_doc, flow_doc, list_doc, map_doc, ordered_map_doc, entries_doc, table_doc, Docs, no_docs, doc, Entries, no_entries, entry}
 
 -- ---- the values of a tree: one for itself, and those of its elements or members
 
@@ -75,6 +75,7 @@ unfoldable mutual
   schema_count (flow_doc d) = schema_count d
   schema_count (list_doc ds) = docs_schema_count ds
   schema_count (map_doc es) = entries_schema_count es
+  schema_count (ordered_map_doc es) = entries_schema_count es
   schema_count (entries_doc es e) = entries_schema_count es
   schema_count (table_doc n ds e) = docs_schema_count ds
 

@@ -1,10 +1,14 @@
 -- The documents of texts, options, lists and maps.
-use Rattle.std.specs.Prelude.{ℕ, List, [], Option, None, Some, option_map, map, String, string_bytes, Vec}
+use Rattle.std.specs.Prelude.{ℕ, List, [], ◌∷◌, Option, None, Some, option_map, map, String, string_bytes, Vec}
 use Rattle.std.specs.BTreeMap.{BTreeMap}
 use Rattle.std.specs.declared.alloc.Global.{Global}
+use Rattle.std.specs.Borrow.{Bor}
+use Rattle.indexmap.specs.IndexMap.{IndexMap}
 use Rattle.serde_json.specs.View.{view}
 use Rattle.serde_json.specs.declared.value.Value.{Value}
-use Rattle.utoipa_base.specs.Docs.{Doc, text_doc, tree_doc, list_doc, map_doc, docs_of, entries_of_list, option_doc}
+use Rattle.serde_json.specs.Data.{Members, no_members, member}
+use Rattle.utoipa_base.specs.Writing.{write}
+use Rattle.utoipa_base.specs.Docs.{Doc, text_doc, tree_doc, list_doc, map_doc, ordered_map_doc, docs_of, entries_of_list, option_doc}
 
 abbrev pub text_of : String Global → Doc
 text_of s = text_doc (string_bytes s)
@@ -24,6 +28,15 @@ pairs_of f es = map (λ e. (string_bytes e.0, f e.1)) es
 
 abbrev pub map_of_docs : {X : Type 0} → (X → Doc) → BTreeMap (String Global) X → Doc
 map_of_docs f m = map_doc (entries_of_list (pairs_of f m.entries))
+
+-- a map that keeps its order
+abbrev pub ordered_map_of_docs : {X S : Type 0} → (X → Doc) → IndexMap (String Global) X S → Doc
+ordered_map_of_docs f m = ordered_map_doc (entries_of_list (pairs_of f m.entries))
+
+-- the members that borrowed entries show, each with its document's tree
+abbrev pub shown_members : {X : Type 0} → (X → Doc) → List (Bor (List ℕ) × Bor X) → Members
+shown_members f [] = no_members
+shown_members f (e ∷ es) = member e.0.now (write (f e.1.now)) (shown_members f es)
 
 -- the entries of a map that may be absent
 abbrev pub entries_or_none : {X : Type 0} → Option (BTreeMap (String Global) X) → List (String Global × X)

@@ -5,7 +5,7 @@ use Rattle.serde_json.specs.Find.{get, as_str}
 use Rattle.serde_json.specs.Written.{has_float, members_have_float}
 use Rattle.utoipa_base.specs.Kinds.{Kind}
 use Rattle.utoipa_base.specs.Choices.{chosen, flow_keys}
-use Rattle.utoipa_base.specs.Docs.{Doc, text_doc, flag_doc, whole_doc, int_doc, uint_doc, tree_doc, word_doc, custom_doc, types_doc, any_value_doc, none_doc, some_doc, ref_doc, own_doc, schema_doc, tagged_doc, flow_doc, list_doc, map_doc, entries_doc, table_doc, Docs, no_docs, doc, Entries, no_entries, entry}
+use Rattle.utoipa_base.specs.Docs.{Doc, text_doc, flag_doc, whole_doc, int_doc, uint_doc, tree_doc, word_doc, custom_doc, types_doc, any_value_doc, none_doc, some_doc, ref_doc, own_doc, schema_doc, tagged_doc, flow_doc, list_doc, map_doc, ordered_map_doc, entries_doc, table_doc, Docs, no_docs, doc, Entries, no_entries, entry}
 use Rattle.utoipa_base.specs.Extensions.{is_extension, all_extensions, members_or_none}
 use Rattle.utoipa_base.specs.Reading.{read}
 use Rattle.utoipa_base.specs.Writing.{write}
@@ -35,6 +35,7 @@ unfoldable mutual
   has_fraction (flow_doc d) = has_fraction d
   has_fraction (list_doc ds) = docs_have_fraction ds
   has_fraction (map_doc es) = entries_have_fraction es
+  has_fraction (ordered_map_doc es) = entries_have_fraction es
   has_fraction (entries_doc es e) = entries_have_fraction es || members_have_float (members_or_none e)
   has_fraction (table_doc n ds e) = docs_have_fraction ds || members_have_float (members_or_none e)
 
@@ -92,6 +93,7 @@ unfoldable mutual
   IsUnambiguous (flow_doc d) = IsUnambiguous d
   IsUnambiguous (list_doc ds) = AreUnambiguous ds
   IsUnambiguous (map_doc es) = AreUnambiguousEntries es
+  IsUnambiguous (ordered_map_doc es) = AreUnambiguousEntries es
   IsUnambiguous (entries_doc es e) = AreUnambiguousEntries es × (names_no_extension es ≡ true) × AllExtensions e
   IsUnambiguous (table_doc n ds e) = AreUnambiguous ds × AllExtensions e
 

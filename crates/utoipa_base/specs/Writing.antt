@@ -5,7 +5,7 @@ use Rattle.std.specs.Cmp.Lexicographic.{slice_cmp}
 use Rattle.serde_json.specs.Data.{unsigned, Data, null, boolean, number, string, array, object, Items, no_items, item, Members, no_members, member, put}
 use Rattle.serde_json.specs.Find.{of_integer}
 use Rattle.utoipa_base.specs.Kinds.{Mark, required, optional, or_null, defaulted, Row}
-use Rattle.utoipa_base.specs.Docs.{Doc, text_doc, flag_doc, whole_doc, int_doc, uint_doc, tree_doc, word_doc, custom_doc, types_doc, any_value_doc, none_doc, some_doc, ref_doc, own_doc, schema_doc, tagged_doc, flow_doc, list_doc, map_doc, entries_doc, table_doc, Docs, no_docs, doc, Entries, no_entries, entry}
+use Rattle.utoipa_base.specs.Docs.{Doc, text_doc, flag_doc, whole_doc, int_doc, uint_doc, tree_doc, word_doc, custom_doc, types_doc, any_value_doc, none_doc, some_doc, ref_doc, own_doc, schema_doc, tagged_doc, flow_doc, list_doc, map_doc, ordered_map_doc, entries_doc, table_doc, Docs, no_docs, doc, Entries, no_entries, entry}
 use Rattle.utoipa_base.specs.Version.{is_empty_text}
 use Rattle.utoipa_base.specs.Tables.{table}
 use Rattle.utoipa_base.specs.Extensions.{members_or_none}
@@ -28,6 +28,7 @@ is_empty (flag_doc false) = true
 is_empty any_value_doc = true
 is_empty (list_doc ds) = is_empty_docs ds
 is_empty (map_doc es) = is_empty_entries es
+is_empty (ordered_map_doc es) = is_empty_entries es
 is_empty d = false
 
 abbrev pub is_none : Doc → Bool
@@ -93,6 +94,7 @@ unfoldable mutual
   write (flow_doc d) = write d
   write (list_doc ds) = array (write_items ds)
   write (map_doc es) = object (write_entries es)
+  write (ordered_map_doc es) = object (put_written es no_members)
   write (entries_doc es e) = object (merge_members (write_entries es) (members_or_none e))
   write (table_doc n ds e) = object (write_rows ds (table n) (members_or_none e))
 
@@ -103,6 +105,11 @@ unfoldable mutual
   pub write_entries : Entries → Members
   write_entries no_entries = no_members
   write_entries (entry name d es) = member name (write d) (write_entries es)
+
+  -- the members, with the entries put among them, one after the other
+  pub put_written : Entries → Members → Members
+  put_written no_entries ms = ms
+  put_written (entry name d es) ms = put_written es (put name (write d) ms)
 
   -- the members, with the fields of the rows
   pub write_rows : Docs → List Row → Members → Members

@@ -11,6 +11,7 @@ pub mod fraction;
 pub mod laws;
 pub mod lists;
 pub mod number;
+pub mod ordered_map;
 pub mod pending;
 pub mod print;
 pub mod readings;
