@@ -1,11 +1,9 @@
 -- A map that keeps its order beside the members that it is read from and written as.
-use Rattle.std.proofs.Common.{◌≡◌, ℕ, ◌+◌, ◌<◌, ◌≤◌, List, [], ◌∷◌, ◌++◌, Bool, true, false, cond, Option, Some, None, option_map, option_and_then, refl, sym, ap, ◌∙◌, subst, append_assoc, append-nil, arith, Result, Ok, Err, map, length, ◌↔◌, IsTrue, IsErrAnd, String, Global, BTreeMap, string_bytes, string_cmp, string_eq, nat_cmp, Ordering, Less, Equal, Greater, true≢false, is_eq}
-use Rattle.std.proofs.lemmas.Cmp.{nat_list_cmp_total}
+use Rattle.std.proofs.Common.{◌≡◌, ℕ, List, [], ◌∷◌, ◌++◌, false, cond, Option, Some, None, option_map, option_and_then, refl, sym, ap, ◌∙◌, subst, append_assoc, append-nil, arith, Result, Ok, Err, IsErrAnd, String, Global, BTreeMap, string_bytes, string_cmp, string_eq, nat_cmp, Ordering, Less, Equal, Greater, is_eq}
 use Rattle.std.proofs.lemmas.List.{map-append}
 use Rattle.std.proofs.lemmas.Map.Text.{is_eq-slice_cmp}
 use Rattle.std.specs.BTreeMap as tree
 use Rattle.std.specs.Borrow.{Bor}
-use Rattle.std.specs.Cmp.{IsEquivalence}
 use Rattle.std.specs.Cmp.Lexicographic.{slice_cmp}
 use Rattle.std.specs.List.{AllByRecursion, IsDistinct}
 use Rattle.std.specs.List.Sorted.{IsStrictlySortedBy}
@@ -38,10 +36,9 @@ use Rattle.utoipa_base.specs.declared.fault.ReadFault.{ReadFault}
 use Rattle.utoipa_base.specs.declared.fault.ReadFault.TheVariants.{Memory, Fraction, Missing, Word, Alternative, Text}
 use Rattle.utoipa_base.specs.declared.fault.ReadFault.TheVariants as fault
 use Rattle.utoipa_base.proofs.ByName.{IsBelow, Ascends, by_name-stays}
-use Rattle.utoipa_base.proofs.Maps.{members_read, texts, above, insert_last, entries_read, entries_read-end, prepend_entries, read-map, map_by_entries}
-use Rattle.utoipa_base.proofs.Places.{counted_more}
+use Rattle.utoipa_base.proofs.Maps.{members_read, texts, above, insert_last, entries_read, entries_read-end, prepend_entries, read-map}
 use Rattle.utoipa_base.proofs.ReadingMaps.{MapSoFar, map_step}
-use Rattle.utoipa_base.proofs.Values.{members_values-cons, object_values}
+use Rattle.utoipa_base.proofs.Values.{object_values}
 use Rattle.utoipa_base.proofs.WritingMaps.{MapCopied}
 
 -- ---- the definitions

@@ -2,9 +2,7 @@
 use Rattle.std.proofs.Common.{◌≡◌, ℕ, zero, suc, ◌+◌, ◌<◌, ◌≤◌, List, [], ◌∷◌, ◌++◌, length, get_or, map, String, Global, ap, arith}
 use Rattle.utoipa_base.specs.Docs.{Doc, text_doc, flag_doc, whole_doc, int_doc, uint_doc, tree_doc, word_doc, custom_doc, types_doc, any_value_doc, none_doc, some_doc, ref_doc, own_doc, tagged_doc, flow_doc, list_doc, map_doc, ordered_map_doc, entries_doc, table_doc, Docs, no_docs, doc, Entries, no_entries, entry, docs_of, entries_of_list}
 use Rattle.utoipa_base.specs.Docs as docs
-use Rattle.utoipa_base.specs.Kinds.{schema}
-use Rattle.utoipa_base.specs.Refs.{ref_or_doc}
-use Rattle.utoipa_base.specs.Views.{option_of, list_of_docs, map_of_docs, pairs_of}
+use Rattle.utoipa_base.specs.Views.{pairs_of}
 
 unfoldable mutual
   pub weight : Doc → ℕ

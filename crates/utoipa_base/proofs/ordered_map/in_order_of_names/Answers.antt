@@ -1,5 +1,5 @@
-use Rattle.std.proofs.Common.{◌≡◌, refl, ap, ◌∙◌, rules}
-use Rattle.serde_json.specs.Data.{no_members, put}
+use Rattle.std.proofs.Common.{refl, ap, ◌∙◌}
+use Rattle.serde_json.specs.Data.{put}
 use Rattle.utoipa_base.specs.Views.{shown_members}
 use Rattle.utoipa_base.specs.Writing.{write}
 use Rattle.utoipa_base.proofs.OrderedMaps.{put_begun, put_step, put_all, shown-insert}

@@ -1,4 +1,4 @@
-use Rattle.std.proofs.Common.{◌∙◌, rules}
+use Rattle.std.proofs.Common.{◌∙◌}
 use Rattle.utoipa_base.proofs.WritingMaps.{copied_begun}
 use Rattle.utoipa_base.proofs.OrderedMaps.{ordered_copied_step, ordered_map_copied}
 use Rattle.utoipa_base.proofs.ordered_map.IndexMapStringTree.try_clone.Goals as goal
