@@ -420,7 +420,9 @@ pub(crate) fn read_ref_or_schema_list(
 }
 
 /// References and schemas by their names.
+// Not inlined: the room of the insertion is not to stand on the stack while a schema beside the map is read.
 #[cycle(read)]
+#[inline(never)]
 pub(crate) fn read_ref_or_schema_map(
     alloc: Global,
     tree: &Value,
