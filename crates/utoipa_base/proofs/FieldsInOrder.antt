@@ -124,7 +124,7 @@ put_merged_at Equal k d l f ms es is more = put_equal k d l f (merge_members ms)
 put_merged_at Greater k d l f ms es is more = put_greater k d l f (merge_members ms) es is ∙ merge_member-same l f (λ e. put k d (merge_members ms e)) (merge_members (put k d ms)) es more
 
 -- a member put among members that were merged with others is one put among the former
-put_merged : (k : List ℕ) (d : Data) (ms es : Members) → put k d (merge_members ms es) ≡ merge_members (put k d ms) es
+pub put_merged : (k : List ℕ) (d : Data) (ms es : Members) → put k d (merge_members ms es) ≡ merge_members (put k d ms) es
 put_merged k d no_members es = put_alone k d es
 put_merged k d (member l f ms) es = put_merged_at (slice_cmp nat_cmp k l) k d l f ms es refl (λ e. put_merged k d ms e)
 

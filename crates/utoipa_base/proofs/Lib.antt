@@ -25,6 +25,7 @@ pub mod WhatIsRead
 pub mod WritingLists
 pub mod WritingMaps
 pub mod OrderedMaps
+pub mod EntryMaps
 pub mod TableParts
 pub mod TableCounts
 pub mod Members

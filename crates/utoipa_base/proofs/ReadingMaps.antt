@@ -46,7 +46,7 @@ map_begun k f all es start none =
     }
 
 -- the values of the entries that are left are those of the next one and of the others
-values_left : (left : List Entry) (e : Entry) (more : List Entry) → left ≡ e ∷ more → members_values (members_view left) ≡ values (view e.1) + members_values (members_view more)
+pub values_left : (left : List Entry) (e : Entry) (more : List Entry) → left ≡ e ∷ more → members_values (members_view left) ≡ values (view e.1) + members_values (members_view more)
 values_left left e more rest = ap (λ r. members_values (members_view r)) rest ∙ members_values-cons e more
 
 -- one entry more, under a copy of its name

@@ -267,7 +267,7 @@ pub record EntriesPrinted {X : Type 0} (f : X → Data) (all left : List (String
 pub entries_begun : {X : Type 0} (f : X → Data) (all left : List (String Global × X)) (w : Written) → left ≡ all → EntriesPrinted f all left w w
 entries_begun f all left w whole = record { done = []; split = sym whole; added = nothing_added w }
 
-members_by-last : {X : Type 0} (f : X → Data) (es : List (String Global × X)) (e : String Global × X) → joined (members_by f es) (member (string_bytes e.0) (f e.1) no_members) ≡ members_by f (es ++ e ∷ [])
+pub members_by-last : {X : Type 0} (f : X → Data) (es : List (String Global × X)) (e : String Global × X) → joined (members_by f es) (member (string_bytes e.0) (f e.1) no_members) ≡ members_by f (es ++ e ∷ [])
 members_by-last f [] e = refl
 members_by-last f (x ∷ es) e = ap (member (string_bytes x.0) (f x.1)) (members_by-last f es e)
 

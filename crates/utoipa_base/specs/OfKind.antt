@@ -6,7 +6,7 @@ use Rattle.std.specs.Prelude.{Vec}
 use Rattle.indexmap.specs.IndexMap.{IndexMap}
 use Rattle.serde_json.specs.Data.{Members}
 use Rattle.serde_json.specs.declared.value.Value.{Value}
-use Rattle.utoipa_base.specs.Kinds.{ObjectType, reference_object, Kind, text, flag, any, whole, numeral, list_of, map_of, ordered_map_of, ref_or, named, Row}
+use Rattle.utoipa_base.specs.Kinds.{ObjectType, reference_object, Kind, text, flag, any, whole, numeral, list_of, map_of, ordered_map_of, entries_of, ref_or, named, Row}
 use Rattle.utoipa_base.specs.Docs.{Doc, flag_doc, whole_doc, table_doc, Docs, no_docs, doc, docs_of, entries_of_list}
 use Rattle.utoipa_base.specs.Tables.{table, has_extensions}
 use Rattle.utoipa_base.specs.Shape.{Place, value_of, option_of, field_place, IsOf, ItemsOf, EntriesOf, RowsOf, Extends}
@@ -20,6 +20,7 @@ use Rattle.utoipa_base.specs.declared.required.Required.{Required}
 use Rattle.utoipa_base.specs.declared.required.Required.TheVariants as requirement
 use Rattle.utoipa_base.specs.declared.number.Number.{Number}
 use Rattle.utoipa_base.specs.declared.number.Number.TheVariants.{Int, UInt}
+use Rattle.utoipa_base.specs.declared.extensions.Extensions.{Extensions}
 use Rattle.utoipa_base.specs.declared.refs.Ref.{Ref}
 use Rattle.utoipa_base.specs.declared.refs.RefOr.{RefOr}
 use Rattle.utoipa_base.specs.declared.refs.RefOr.TheVariants as made
@@ -83,6 +84,11 @@ map_of_kind f k each m = (value_of k, refl, entries_of_kind f (value_of k) each 
 pub ordered_map_of_kind : {X S : Type 0} (f : X → Doc) (k : Kind) → ((x : X) → IsOf (f x) (value_of k)) → (m : IndexMap (String Global) X S) → IsOf (views.ordered_map_of_docs f m) (value_of (ordered_map_of k))
 unfolding IsOf
 ordered_map_of_kind f k each m = (k, refl, entries_of_kind f (value_of k) each m.entries)
+
+-- a map beside the extensions of its object
+pub entries_beside_of_kind : {X : Type 0} (f : X → Doc) (k : Kind) → ((x : X) → IsOf (f x) (value_of k)) → (m : BTreeMap (String Global) X) (e : Option Extensions) → IsOf (views.entries_beside f m e) (value_of (entries_of k))
+unfolding IsOf
+entries_beside_of_kind f k each m e = (k, refl, entries_of_kind f (value_of k) each m.entries)
 
 -- ---- an object's fields, row by row
 

@@ -8,7 +8,9 @@ use Rattle.serde_json.specs.View.{view}
 use Rattle.serde_json.specs.declared.value.Value.{Value}
 use Rattle.serde_json.specs.Data.{Members, no_members, member}
 use Rattle.utoipa_base.specs.Writing.{write}
-use Rattle.utoipa_base.specs.Docs.{Doc, text_doc, tree_doc, list_doc, map_doc, ordered_map_doc, docs_of, entries_of_list, option_doc}
+use Rattle.utoipa_base.specs.Extensions.{extensions_view}
+use Rattle.utoipa_base.specs.declared.extensions.Extensions.{Extensions}
+use Rattle.utoipa_base.specs.Docs.{Doc, text_doc, tree_doc, list_doc, map_doc, ordered_map_doc, entries_doc, docs_of, entries_of_list, option_doc}
 
 abbrev pub text_of : String Global → Doc
 text_of s = text_doc (string_bytes s)
@@ -28,6 +30,10 @@ pairs_of f es = map (λ e. (string_bytes e.0, f e.1)) es
 
 abbrev pub map_of_docs : {X : Type 0} → (X → Doc) → BTreeMap (String Global) X → Doc
 map_of_docs f m = map_doc (entries_of_list (pairs_of f m.entries))
+
+-- a map beside the extensions of its object
+abbrev pub entries_beside : {X : Type 0} → (X → Doc) → BTreeMap (String Global) X → Option Extensions → Doc
+entries_beside f m e = entries_doc (entries_of_list (pairs_of f m.entries)) (option_map extensions_view e)
 
 -- a map that keeps its order
 abbrev pub ordered_map_of_docs : {X S : Type 0} → (X → Doc) → IndexMap (String Global) X S → Doc

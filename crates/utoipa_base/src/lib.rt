@@ -5,6 +5,7 @@
 pub mod compare;
 pub mod deprecated;
 pub mod empty;
+pub mod entries;
 pub mod extensions;
 pub mod fault;
 pub mod fraction;
@@ -30,6 +31,7 @@ pub use compare::{
 };
 pub use deprecated::Deprecated;
 pub use empty::{Empty, row_or_empty, write_unless_empty};
+pub use entries::{print_entries, read_entries, write_entries};
 pub use extensions::{
     Extensions, ExtensionsBuilder, clone_extensions, is_extension_name, read_extensions,
     written_extensions,
