@@ -1,11 +1,11 @@
 -- Objects whose members are entries of a map, beside their extensions: what a loop over them has read, written or printed so far.
-use Rattle.std.proofs.Common.{◌≡◌, ℕ, ◌+◌, ◌<◌, ◌≤◌, List, [], ◌∷◌, ◌++◌, Bool, true, false, cond, not, Option, Some, None, option_map, option_and_then, refl, sym, ap, ◌∙◌, subst, append_assoc, append-nil, arith, Result, Ok, Err, OnOk, IsErrAnd, String, Global, BTreeMap, string_bytes, string_cmp, Less}
+use Rattle.std.proofs.Common.{◌≡◌, ℕ, ◌+◌, ◌<◌, ◌≤◌, List, [], ◌∷◌, ◌++◌, Bool, true, false, cond, Option, Some, None, option_map, option_and_then, refl, sym, ap, ◌∙◌, subst, append_assoc, append-nil, arith, Result, Ok, Err, OnOk, IsErrAnd, String, Global, BTreeMap, string_bytes, string_cmp, Less}
 use Rattle.std.proofs.lemmas.List.{map-append}
 use Rattle.std.specs.BTreeMap.{insert_entry}
 use Rattle.std.specs.List.{AllByRecursion}
 use Rattle.std.specs.List.Sorted.{IsStrictlySortedBy}
 use Rattle.std.specs.Map.{keys_of}
-use Rattle.json.specs.Token.{key, begin_object}
+use Rattle.json.specs.Token.{begin_object}
 use Rattle.json.specs.Written.{Written}
 use Rattle.serde_json.specs.Data.{Data, null, boolean, number, string, array, object, Members, no_members, member, put}
 use Rattle.serde_json.specs.Find.{as_object}
@@ -30,7 +30,7 @@ use Rattle.utoipa_base.proofs.Maps.{texts, insert_last, members_by, put_last, wr
 use Rattle.utoipa_base.proofs.Places.{counted_more, entries_schema_count-none}
 use Rattle.utoipa_base.proofs.ReadingMaps.{values_left}
 use Rattle.utoipa_base.proofs.Tokens.{members_by-last}
-use Rattle.utoipa_base.proofs.Values.{members_values-cons, object_values, entries_schema_count-last}
+use Rattle.utoipa_base.proofs.Values.{object_values, entries_schema_count-last}
 
 -- ---- the definitions
 
@@ -187,8 +187,8 @@ entries_refused {B = B} k f g all left es start now new e more d (Err h) x so_fa
       ok = tt;
       err = passes_on {T = B} (Err h) x _ _ passed one.err
           (λ none. entries_by k d all None is
-            (so_far.read ∙ ap (λ r. prepend_entries (pairs_of f es) (kept_read k r)) rest
-            ∙ ap (prepend_entries (pairs_of f es)) (kept_read_more k e more keeps ∙ ap (λ r. both_entries (string_bytes e.0) r (kept_read k more)) none) ∙ prepend_entries-none (pairs_of f es)));
+          (so_far.read ∙ ap (λ r. prepend_entries (pairs_of f es) (kept_read k r)) rest
+          ∙ ap (prepend_entries (pairs_of f es)) (kept_read_more k e more keeps ∙ ap (λ r. both_entries (string_bytes e.0) r (kept_read k more)) none) ∙ prepend_entries-none (pairs_of f es)));
       grows = omega (arith, one.grows, so_far.grows);
       at_most = omega (arith, values_left left e more rest, object_values d (members_view all) is, one.at_most, so_far.at_most);
       at_least = tt;

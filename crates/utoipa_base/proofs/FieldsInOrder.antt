@@ -1,17 +1,15 @@
 -- A table is written as the fields that are there in the order of their names, with the extensions among them.
-use Rattle.std.proofs.Common.{◌≡◌, ℕ, List, [], ◌∷◌, ◌++◌, Bool, true, false, ◌&&◌, ◌||◌, Option, Some, None, option_map, option_and_then, refl, sym, ap, ◌∙◌, nat_cmp, Ordering, Less, Equal, Greater, true≢false, subst, append_assoc, append-nil, is_eq, is_some, string_bytes, Result, Ok, Err, OnOk, suc, ◌<◌, arith}
+use Rattle.std.proofs.Common.{◌≡◌, ℕ, List, [], ◌∷◌, ◌++◌, Bool, true, false, ◌||◌, Option, Some, None, option_map, option_and_then, refl, sym, ap, ◌∙◌, nat_cmp, Ordering, Less, Equal, Greater, true≢false, subst, append_assoc, append-nil, is_eq, is_some, Result, Ok, Err, OnOk, suc, ◌<◌, arith}
 use Rattle.std.proofs.Math.Bool.{or-false}
 use Rattle.std.proofs.lemmas.Result.{on_ok_weaker}
-use Rattle.std.proofs.lemmas.Cmp.{nat_list_cmp_total, tied_itself}
-use Rattle.std.specs.Cmp.{IsTotalOrder}
+use Rattle.std.proofs.lemmas.Cmp.{nat_list_cmp_total}
 use Rattle.std.specs.Cmp.Lexicographic.{slice_cmp}
 use Rattle.std.proofs.lemmas.Map.Text.{is_eq-slice_cmp}
 use Rattle.std.proofs.lemmas.Slice.Eq.{bytes_eq-Decides}
 use Rattle.std.specs.Ordering.{match_ordering, ordering_reverse}
-use Rattle.json.specs.Token.{Token, key, begin_object, end_object}
+use Rattle.json.specs.Token.{key, begin_object, end_object}
 use Rattle.json.specs.Written.{Written, Writes}
 use Rattle.serde_json.specs.Data.{Data, string, object, Members, no_members, member, put}
-use Rattle.serde_json.specs.View.{view, members_view}
 use Rattle.serde_json.specs.Written.{has_float, members_have_float}
 use Rattle.utoipa_base.specs.Docs.{Doc, none_doc, some_doc, text_doc, flow_doc, tagged_doc, table_doc, Docs, no_docs, doc}
 use Rattle.utoipa_base.specs.Extensions.{members_or_none}

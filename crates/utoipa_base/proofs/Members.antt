@@ -1,5 +1,5 @@
 -- A member that a look-up has found: its values, and a row's field by what stands at its name.
-use Rattle.std.proofs.Common.{◌≡◌, ◌∙◌, ◌+◌, ◌<◌, ℕ, List, [], ◌∷◌, true, false, Option, Some, None, option_map, refl, ap, sym, arith, Bor, codes, cond, option_and_then}
+use Rattle.std.proofs.Common.{◌≡◌, ◌∙◌, ◌+◌, ◌<◌, ℕ, List, [], ◌∷◌, true, false, Option, Some, None, option_map, refl, ap, sym, arith, Bor, cond, option_and_then}
 use Rattle.serde_json.specs.Data.{Data}
 use Rattle.serde_json.specs.Find.{get, as_array, as_object}
 use Rattle.serde_json.specs.View.{view}

@@ -1,5 +1,5 @@
 -- A map read entry by entry: what a loop over the members has read so far, and what it comes to.
-use Rattle.std.proofs.Common.{◌≡◌, ℕ, ◌+◌, ◌<◌, ◌≤◌, List, [], ◌∷◌, ◌++◌, Option, Some, None, option_map, refl, sym, ap, ◌∙◌, subst, append_assoc, arith, Result, Ok, Err, IfErr, String, Global, BTreeMap, string_bytes, string_cmp}
+use Rattle.std.proofs.Common.{◌≡◌, ℕ, ◌+◌, ◌<◌, ◌≤◌, List, [], ◌∷◌, ◌++◌, Some, None, refl, sym, ap, ◌∙◌, subst, append_assoc, arith, Result, Ok, Err, String, Global, BTreeMap, string_bytes, string_cmp}
 use Rattle.std.proofs.lemmas.List.{map-append}
 use Rattle.std.specs.BTreeMap.{insert_entry}
 use Rattle.std.specs.List.Sorted.{IsStrictlySortedBy}
@@ -9,11 +9,11 @@ use Rattle.serde_json.specs.Data.{Data}
 use Rattle.serde_json.specs.Find.{as_object}
 use Rattle.serde_json.specs.View.{view, members_view}
 use Rattle.serde_json.proofs.Views.{Entry}
-use Rattle.utoipa_base.specs.Docs.{Doc, map_doc, entries_of_list}
+use Rattle.utoipa_base.specs.Docs.{Doc, entries_of_list}
 use Rattle.utoipa_base.specs.Kinds.{Kind, map_of}
 use Rattle.utoipa_base.specs.Reading.{read}
 use Rattle.utoipa_base.specs.Reads.{Reads}
-use Rattle.utoipa_base.specs.Values.{values, members_values, schema_count, entries_schema_count}
+use Rattle.utoipa_base.specs.Values.{values, members_values, entries_schema_count}
 use Rattle.utoipa_base.specs.Views.{pairs_of, map_of_docs}
 use Rattle.utoipa_base.specs.declared.fault.ReadFault.{ReadFault}
 use Rattle.utoipa_base.proofs.ByRows.{passes_on}

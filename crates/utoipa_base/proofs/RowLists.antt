@@ -11,7 +11,7 @@ use Rattle.serde_json.specs.View.{view, members_view}
 use Rattle.serde_json.specs.declared.value.Value.{Value, Object}
 use Rattle.utoipa_base.specs.Reading.{read}
 use Rattle.utoipa_base.specs.Tables.{table, has_extensions}
-use Rattle.utoipa_base.specs.Values.{values, names_values, schema_count, docs_schema_count}
+use Rattle.utoipa_base.specs.Values.{values, names_values, schema_count}
 use Rattle.std.proofs.Math.Seq.{take-length}
 use Rattle.std.specs.Result.{IsErrAnd}
 use Rattle.utoipa_base.specs.Faults.{Refuses}

@@ -13,7 +13,6 @@ use Rattle.utoipa_base.specs.Shape.{RowsOf}
 use Rattle.utoipa_base.specs.Writing.{write, write_rows, put_row, is_empty}
 use Rattle.utoipa_base.proofs.ByRows.{put_field-required, put_field-some, put_field-full}
 use Rattle.serde_json.specs.declared.value.Value as json
-use Rattle.utoipa_base.specs.Docs as docs
 
 -- documents, one after the other
 abbrev pub docs_append : Docs → Docs → Docs

@@ -1,5 +1,5 @@
 -- Tokens added to a writer, and those of trees, part by part.
-use Rattle.std.proofs.Common.{◌≡◌, ◌<◌, ◌≤◌, ◌+◌, ℕ, ℤ, pos, negsuc, length, take, get_or, subst, arith, List, [], ◌∷◌, ◌++◌, Bool, true, false, ◌||◌, map, decimal, Option, Some, None, refl, sym, ap, ◌∙◌, append_assoc, append-nil, String, Global, string_bytes, Result, Ok, Err, OnOk}
+use Rattle.std.proofs.Common.{◌≡◌, ◌<◌, ◌≤◌, ◌+◌, ℕ, ℤ, pos, negsuc, length, take, get_or, subst, arith, List, [], ◌∷◌, ◌++◌, Bool, true, false, ◌||◌, map, decimal, Some, None, refl, sym, ap, ◌∙◌, append_assoc, append-nil, String, Global, string_bytes, Result, Ok, Err, OnOk}
 use Rattle.std.proofs.Math.Bool.{or-false}
 use Rattle.std.proofs.lemmas.Bool.{or_parts}
 use Rattle.std.proofs.lemmas.Grind.{common_steps}
@@ -15,7 +15,6 @@ use Rattle.serde_json.specs.Find.{as_u64, as_i64, of_integer}
 use Rattle.serde_json.specs.Data.{Num, unsigned, negative, float, Data, null, boolean, number, string, array, object, Members, no_members, member}
 use Rattle.serde_json.specs.View.{view, members_view, items_of}
 use Rattle.serde_json.specs.Written.{outline, items_outline, members_outline, has_float, items_have_float, members_have_float, compact_text}
-use Rattle.serde_json.specs.declared.value.Value.{Value}
 use Rattle.serde_json.proofs.Texts.{print-outline}
 use Rattle.serde_json.proofs.Views.{Entry}
 use Rattle.utoipa_base.specs.Docs.{Doc, text_doc, word_doc, custom_doc, flag_doc, whole_doc, int_doc, uint_doc, any_value_doc, none_doc, some_doc, list_doc, map_doc, docs_of, entries_of_list}

@@ -1,7 +1,7 @@
 -- Alternatives that are tried in turn.
-use Rattle.std.proofs.Common.{◌≡◌, ℕ, Option, Some, None, Result, Ok, Err, refl}
+use Rattle.std.proofs.Common.{◌≡◌, ℕ, Option, Some, None, Result, Ok, Err}
 use Rattle.utoipa_base.specs.Docs.{Doc}
-use Rattle.utoipa_base.specs.Faults.{Refuses, fitting}
+use Rattle.utoipa_base.specs.Faults.{fitting}
 use Rattle.utoipa_base.specs.Reads.{Reads}
 use Rattle.utoipa_base.specs.declared.fault.ReadFault.{ReadFault}
 use Rattle.utoipa_base.specs.declared.fault.ReadFault.TheVariants.{Memory, Fraction, Missing, Kind as no_kind, Word, Alternative, Text}

@@ -1,4 +1,4 @@
-use Rattle.std.proofs.Common.{◌≡◌, ◌∙◌, ap, subst, refl, arith, rules, length}
+use Rattle.std.proofs.Common.{◌≡◌, ◌∙◌, subst, arith, rules}
 use Rattle.std.proofs.lemmas.Result.{on_ok_weaker}
 use Rattle.json.specs.Token as token
 use Rattle.serde_json.specs.Data.{null, boolean, string, object}

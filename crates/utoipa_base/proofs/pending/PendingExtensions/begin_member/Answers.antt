@@ -1,4 +1,4 @@
-use Rattle.std.proofs.Common.{◌≡◌, ◌∙◌}
+use Rattle.std.proofs.Common.{◌∙◌}
 use Rattle.utoipa_base.proofs.FieldsInOrder.{member_begun}
 use Rattle.utoipa_base.proofs.Tokens.{token_added}
 use Rattle.utoipa_base.proofs.pending.PendingExtensions.begin_member.Goals as goal

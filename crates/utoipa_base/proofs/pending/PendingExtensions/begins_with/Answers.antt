@@ -1,4 +1,4 @@
-use Rattle.std.proofs.Common.{◌≡◌, ◌∙◌, sym, ap, string_bytes, bytes_eq}
+use Rattle.std.proofs.Common.{◌∙◌, sym, ap, string_bytes, bytes_eq}
 use Rattle.std.proofs.lemmas.Map.Text.{is_eq-slice_cmp}
 use Rattle.utoipa_base.proofs.pending.PendingExtensions.begins_with.Goals as goal
 

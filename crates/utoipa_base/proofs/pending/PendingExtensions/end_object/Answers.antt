@@ -1,6 +1,5 @@
-use Rattle.std.proofs.Common.{◌≡◌, ◌∙◌, sym, ap}
-use Rattle.utoipa_base.specs.InOrder.{later_members}
-use Rattle.utoipa_base.proofs.FieldsInOrder.{printed_begun, printed_step, object_ended, none-next, next-fewer, members_count}
+use Rattle.std.proofs.Common.{◌∙◌, sym}
+use Rattle.utoipa_base.proofs.FieldsInOrder.{printed_begun, printed_step, object_ended, none-next}
 use Rattle.utoipa_base.proofs.pending.PendingExtensions.end_object.Goals as goal
 
 pub loop-pending-init : goal.loop-pending-init

@@ -1,6 +1,6 @@
-use Rattle.std.proofs.Common.{◌≡◌, ◌∙◌, sym, ap}
+use Rattle.std.proofs.Common.{◌∙◌, sym}
 use Rattle.utoipa_base.specs.Pending.{pending_view}
-use Rattle.utoipa_base.proofs.FieldsInOrder.{passed_begun, passed_step, passed_all, none_before, starts-fewer, members_count}
+use Rattle.utoipa_base.proofs.FieldsInOrder.{passed_begun, passed_step, passed_all, none_before}
 use Rattle.utoipa_base.proofs.pending.PendingExtensions.print_before.Goals as goal
 
 pub loop-pending-init : goal.loop-pending-init

@@ -1,4 +1,4 @@
-use Rattle.std.proofs.Common.{◌≡◌, ◌∙◌, sym}
+use Rattle.std.proofs.Common.{◌∙◌, sym}
 use Rattle.utoipa_base.specs.Pending.{pending_view}
 use Rattle.utoipa_base.proofs.FieldsInOrder.{first_passed, none_passed}
 use Rattle.utoipa_base.proofs.pending.PendingExtensions.without.Goals as goal

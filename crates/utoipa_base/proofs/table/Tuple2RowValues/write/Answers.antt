@@ -1,4 +1,3 @@
-use Rattle.std.proofs.Common.{arith}
 use Rattle.utoipa_base.proofs.RowLists.{rows_from-first, rows_written}
 use Rattle.utoipa_base.proofs.table.Tuple2RowValues.write.Goals as goal
 
