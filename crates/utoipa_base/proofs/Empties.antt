@@ -17,12 +17,6 @@ is_empty_text-some (x ∷ xs) h = refl
 not_zero : (n : ℕ) → (suc n == 0) ≡ false
 not_zero n = grind (arith, nat_tests)
 
-pub vacant_docs : {X : Type 0} (f : X → Doc) (b : Bool) (xs : List X) → (IsTrue b ↔ (length xs ≡ 0)) → b ≡ is_empty_docs (docs_of (map f xs))
-vacant_docs f true [] h = refl
-vacant_docs f false [] h = h.1 refl
-vacant_docs f true (x ∷ xs) h = absurd (omega (arith, h.0 refl))
-vacant_docs f false (x ∷ xs) h = refl
-
 pub vacant_entries : {X : Type 0} (f : X → Doc) (b : Bool) (es : List (String Global × X)) → (IsTrue b ↔ (length es ≡ 0)) → b ≡ is_empty_entries (entries_of_list (pairs_of f es))
 vacant_entries f true [] h = refl
 vacant_entries f false [] h = h.1 refl

@@ -1,5 +1,5 @@
 -- References, and what stands in their place.
-use Rattle.std.proofs.Common.{◌≡◌, ℕ, Bool, ◌+◌, ◌<◌, ◌≤◌, List, false, Option, Some, None, option_map, refl, ap, ◌∙◌, arith, nat_lt, if◌then◌else◌}
+use Rattle.std.proofs.Common.{◌≡◌, ℕ, Bool, ◌+◌, ◌<◌, ◌≤◌, List, false, Option, None, option_map, refl, ap, ◌∙◌, arith, nat_lt, if◌then◌else◌}
 use Rattle.std.proofs.lemmas.Bool.Decides.{nat_tests}
 use Rattle.serde_json.specs.Data.{Data, null, boolean, number, string, array, object, Members}
 use Rattle.utoipa_base.specs.declared.fault.ReadFault.{ReadFault}
@@ -10,7 +10,6 @@ use Rattle.utoipa_base.specs.Docs.{Doc, text_doc, flag_doc, whole_doc, tree_doc,
 use Rattle.utoipa_base.specs.Reading.{reader, read, or_else, empty_doc}
 use Rattle.utoipa_base.specs.Writing.{write}
 use Rattle.utoipa_base.specs.OfKind.{reference_of_kind}
-use Rattle.utoipa_base.specs.Views.{option_of}
 use Rattle.utoipa_base.specs.Refs.{reference_doc}
 use Rattle.utoipa_base.specs.declared.refs.Ref.{Ref}
 use Rattle.utoipa_base.specs.Values.{values, schema_count, docs_schema_count, entries_schema_count, is_schema}
@@ -130,12 +129,6 @@ schema_count-empty (ordered_map_of k) = refl
 schema_count-empty schema_type = refl
 schema_count-empty k = refl
 
--- an option of what holds no schema holds none
-pub option_places : {X : Type 0} (f : X → Doc) → ((x : X) → schema_count (f x) ≡ 0) → (o : Option X) → schema_count (option_of f o) ≡ 0
-unfolding schema_count
-option_places f each None = refl
-option_places f each (Some x) = each x
-
 -- a reference holds no schema
 pub schema_count-reference : (r : Ref) → schema_count (reference_doc r) ≡ 0
 schema_count-reference r = counts_none (reference_doc r) (named reference_object) refl (reference_of_kind r)
@@ -161,19 +154,3 @@ pub counted_more : (start old new before after one : ℕ) → (old < 18446744073
 counted_more start old new before after one done grows more is below = omega (arith, done (omega (arith, grows, below)), more below)
 
 -- ---- a counter over the rows of a table
-
--- a counter that has risen by at least the schema places of documents
-abbrev pub ReadFrom : ℕ → ℕ → Docs → Type 0
-ReadFrom old new ds = (old ≤ new) × (new < 18446744073709551615 → old + docs_schema_count ds ≤ new)
-
-pub read_none : (n : ℕ) → ReadFrom n n no_docs
-unfolding docs_schema_count
-read_none n = (omega arith, λ below. omega arith)
-
-pub read_more : (old mid new : ℕ) (d : Doc) (ds : Docs) → old ≤ mid → (mid < 18446744073709551615 → old + schema_count d ≤ mid) → ReadFrom mid new ds → ReadFrom old new (doc d ds)
-unfolding docs_schema_count
-read_more old mid new d ds grows one rest = (omega (arith, grows, rest.0), λ below. omega (arith, one (omega (arith, rest.0, below)), rest.1 below))
-
-pub table_counted : (old new : ℕ) (n : ObjectType) (ds : Docs) (e : Option Members) → ReadFrom old new ds → new < 18446744073709551615 → old + schema_count (table_doc n ds e) ≤ new
-unfolding schema_count
-table_counted old new n ds e counted below = counted.1 below

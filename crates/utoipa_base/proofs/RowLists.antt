@@ -1,5 +1,5 @@
 -- An object is read by the list of its table's rows.
-use Rattle.std.proofs.Common.{Bor, length, get_or, take, drop, Bool, false, ◌-◌, ◌≡◌, ℕ, ◌+◌, ◌<◌, ◌≤◌, List, [], ◌∷◌, Option, Some, None, option_map, refl, sym, ap, ◌∙◌, subst, Result, Ok, Err, IfOk, IfErr, is_some, true, arith, BTreeMap, String, Global}
+use Rattle.std.proofs.Common.{Bor, length, get_or, take, drop, Bool, false, ◌-◌, ◌≡◌, ℕ, ◌+◌, ◌<◌, ◌≤◌, List, [], ◌∷◌, Option, Some, None, option_map, refl, sym, ap, ◌∙◌, subst, Result, Ok, Err, IfOk, is_some, true, arith, BTreeMap, String, Global}
 use Rattle.serde_json.specs.Data.{Data, Members}
 use Rattle.serde_json.specs.Find.{as_object}
 use Rattle.utoipa_base.specs.Kinds.{ObjectType, named, Row}
@@ -14,7 +14,6 @@ use Rattle.utoipa_base.specs.Tables.{table, has_extensions}
 use Rattle.utoipa_base.specs.Values.{values, names_values, schema_count}
 use Rattle.std.proofs.Math.Seq.{take-length}
 use Rattle.std.specs.Result.{IsErrAnd}
-use Rattle.utoipa_base.specs.Faults.{Refuses}
 use Rattle.utoipa_base.specs.declared.fault.ReadFault.{ReadFault}
 use Rattle.utoipa_base.proofs.Places.{schema_count-table, schema_count-list, docs_schema_count-none, docs_schema_count-cons}
 use Rattle.utoipa_base.proofs.ByRows.{passes_on, fields-fit, fields-first, fields-later, fields-nil, table_refused, table_fits, no_extensions, write_rows-cons, table_written}
@@ -65,12 +64,6 @@ rows_from-first first rest (m ∷ ns) n some =
     let k : length (m ∷ ns) - 1 ≡ length ns = omega arith in
     let e : take (length (m ∷ ns) - 1) ns ≡ ns = rw k (take-length ns) in
     ap (λ x. first m.now ∷ rest (texts x)) (sym e)
-
--- what `?` passes on refuses each reading of a family that is refused with the one that was tried
-pub passes_on_each : {T I : Type 0} (Q : I → Type 0) (r : Result T ReadFault) (e : ReadFault) (o : Option Doc) (p : I → Option Doc) → IsErrAnd r (λ f. f ≡ e) → Refuses o e → ((i : I) → Q i → o ≡ None → p i ≡ None)
-    → IfErr r (λ f. (i : I) → Q i → Refuses (p i) f)
-passes_on_each {T} {I} Q (Ok v) e o p is refused h = tt
-passes_on_each {T} {I} Q (Err f) e o p is refused h = λ i q. passes_on {T = T} (Err f) e o (p i) is refused (h i q)
 
 -- what `?` passes on, of a reading of less
 pub passes_reads : {A T : Type 0} (f : A → Doc) (g : T → Doc) (r : Result T ReadFault) (e : ReadFault) (o p : Option Doc) (start old new m n : ℕ) → IsErrAnd r (λ x. x ≡ e) → Reads o f (Err e) old new m → (o ≡ None → p ≡ None)

@@ -88,12 +88,6 @@ has_members name k (object ms) x e = refl
 
 -- ---- a part is read where each of its rows fits, and refused where one does not
 
-pub part_fits : (rs : List Row) (d : Data) (ds : Docs) → fields rs d ≡ Some ds → part rs d ≡ Some (list_doc ds)
-part_fits rs d ds e = ap (option_map list_doc) e
-
-pub part_refused : (rs : List Row) (d : Data) → fields rs d ≡ None → part rs d ≡ None
-part_refused rs d e = ap (option_map list_doc) e
-
 -- ---- the parts of a table, written one after the other
 
 join_written : (xs : Docs) (rs : List Row) → RowsOf xs rs → (ys : Docs) (ss : List Row) (ms : Members) → write_rows (docs_append xs ys) (rs ++ ss) ms ≡ write_rows ys ss (write_rows xs rs ms)

@@ -344,7 +344,3 @@ mutual
 -- what is read is in normal form
 pub read_normal : (k : Kind) (t : Data) (d : Doc) → read k t ≡ Some d → normal_form d ≡ d
 read_normal k t d e = (if_is (Stays (is_null t)) (reader t k) d (tree_stays t k) e).0
-
--- what is read of a tree that is not null is not written as null
-pub read_not_null : (k : Kind) (t : Data) (d : Doc) → is_null t ≡ false → read k t ≡ Some d → is_null (write d) ≡ false
-read_not_null k t d n e = (if_is (Stays (is_null t)) (reader t k) d (tree_stays t k) e).1 n
