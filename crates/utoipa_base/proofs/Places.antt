@@ -152,5 +152,3 @@ ticked_most old new most e = grind (arith, nat_tests)
 pub counted_more : (start old new before after one : ℕ) → (old < 18446744073709551615 → start + before ≤ old) → old ≤ new → (new < 18446744073709551615 → old + one ≤ new) → after ≡ before + one
     → new < 18446744073709551615 → start + after ≤ new
 counted_more start old new before after one done grows more is below = omega (arith, done (omega (arith, grows, below)), more below)
-
--- ---- a counter over the rows of a table
