@@ -1,0 +1,4 @@
+pub mod Docs
+pub mod Layers
+pub mod Folds
+pub mod OfKind
