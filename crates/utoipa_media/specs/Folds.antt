@@ -1,5 +1,5 @@
 -- The documents of encodings, a layer at a time.
-use Rattle.std.proofs.Common.{◌≡◌, ◌∙◌, refl, ap, List, [], ◌∷◌, map, String, Global}
+use Rattle.std.proofs.Common.{◌≡◌, ◌∙◌, refl, ap, List, [], ◌∷◌, String, Global}
 use Rattle.utoipa_base.specs.Docs.{Doc, map_doc, entries_of_list}
 use Rattle.utoipa_base.specs.Kinds.{Kind, named, media_type_object, header_object}
 use Rattle.utoipa_base.specs.Refs.{ref_or_doc}
@@ -23,10 +23,10 @@ same_places : {X : Type 0} (k : Kind) (f g : X → Doc) → ((x : X) → f x ≡
 same_places k f g same (made.Ref r) = refl
 same_places k f g same (made.T x) = rw (same x)
 
-content_fold : Content → Doc
+abbrev content_fold : Content → Doc
 content_fold = fold-Content Doc Doc Doc (content_layer as_is) (encoding_layer as_is as_is) (header_layer as_is)
 
-header_fold : Header → Doc
+abbrev header_fold : Header → Doc
 header_fold = fold-Header Doc Doc Doc (content_layer as_is) (encoding_layer as_is as_is) (header_layer as_is)
 
 content_is : (x : Content) → content_fold x ≡ content_doc x

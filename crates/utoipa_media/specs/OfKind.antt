@@ -16,7 +16,7 @@ use Rattle.utoipa_media.specs.Docs.{content_layer, encoding_layer, header_layer,
 use Rattle.utoipa_media.specs.Folds.{encoding_is}
 use Rattle.utoipa_media.specs.Layers.{content_natural, encoding_natural, header_natural}
 use Rattle.utoipa_media.specs.declared.types.Content.{Content, Content-F, out-Content, out-roll-Content}
-use Rattle.utoipa_media.specs.declared.types.Encoding.{Encoding, Encoding-F, ind-Encoding, out-Encoding, out-roll-Encoding}
+use Rattle.utoipa_media.specs.declared.types.Encoding.{Encoding, Encoding-F, ind-Encoding, out-roll-Encoding}
 use Rattle.utoipa_media.specs.declared.types.Header.{Header, Header-F, out-Header, out-roll-Header}
 
 boxed_of_kind : {X : Type 0} (f : X → Doc) (k : Kind) → ((x : X) → IsOf (f x) (value_of k)) → (b : Box X Global) → IsOf (boxed f b) (value_of k)
@@ -76,11 +76,11 @@ IsHeader h = IsOf (header_doc h) (value_of (named header_object))
 pub encoding_of_kind : (e : Encoding) → IsOf (encoding_doc e) (value_of (named encoding_object))
 encoding_of_kind = ind-Encoding IsContent IsEncoding IsHeader
     (λ x y is. subst (λ d. IsOf d (value_of (named media_type_object))) (sym (ap (content_layer encoding_doc) (out-roll-Content x ∙ sym is) ∙ content_natural encoding_doc (λ e. e.0) (λ e. e.0) (λ e. e.0) y))
-        (content_layer_of_kind (λ e. encoding_doc e.0) (λ e. e.1) y))
+    (content_layer_of_kind (λ e. encoding_doc e.0) (λ e. e.1) y))
     (λ x y is. subst (λ d. IsOf d (value_of (named encoding_object))) (sym (encoding_is _ ∙ ap (encoding_layer header_doc encoding_doc) (out-roll-Encoding x ∙ sym is) ∙ encoding_natural header_doc encoding_doc (λ e. e.0) (λ e. e.0) (λ e. e.0) y))
-        (encoding_layer_of_kind (λ h. header_doc h.0) (λ h. h.1) (λ e. encoding_doc e.0) (λ e. e.1) y))
+    (encoding_layer_of_kind (λ h. header_doc h.0) (λ h. h.1) (λ e. encoding_doc e.0) (λ e. e.1) y))
     (λ x y is. subst (λ d. IsOf d (value_of (named header_object))) (sym (ap (header_layer content_doc) (out-roll-Header x ∙ sym is) ∙ header_natural content_doc (λ e. e.0) (λ e. e.0) (λ e. e.0) y))
-        (header_layer_of_kind (λ c. content_doc c.0) (λ c. c.1) y))
+    (header_layer_of_kind (λ c. content_doc c.0) (λ c. c.1) y))
 
 pub content_of_kind : (c : Content) → IsOf (content_doc c) (value_of (named media_type_object))
 content_of_kind c = content_layer_of_kind encoding_doc encoding_of_kind (out-Content c)
