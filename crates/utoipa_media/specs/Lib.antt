@@ -2,3 +2,4 @@ pub mod Docs
 pub mod Layers
 pub mod Folds
 pub mod OfKind
+pub mod Builders

@@ -1,6 +1,8 @@
-//! Contents, encodings and headers of OpenAPI documents.
+//! Contents of media types, their encodings, headers and links, under the modules of the original crate.
 #![tactic(auto)]
 
+pub mod content;
+pub mod encoding;
+mod fill;
+pub mod header;
 mod types;
-
-pub use types::{Content, Encoding, Header};
