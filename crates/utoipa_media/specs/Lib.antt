@@ -3,3 +3,4 @@ pub mod Layers
 pub mod Folds
 pub mod OfKind
 pub mod Builders
+pub mod Link

@@ -5,4 +5,5 @@ pub mod content;
 pub mod encoding;
 mod fill;
 pub mod header;
+pub mod link;
 mod types;
