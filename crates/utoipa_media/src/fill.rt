@@ -1,0 +1,37 @@
+//! Fields that are filled: with a value put on the heap, and with pairs put into a map.
+ghost use Rattle.std.specs.Prelude.{◌≡◌, IfOk, OnOk};
+ghost use Rattle.std.specs.Iterator.{IsFinite, Drains};
+ghost use Rattle.utoipa_media.specs.Builders.{Pairs, put_each};
+ghost use Rattle.utoipa_schema.specs.Builders.{IsBoxedIfAny};
+
+use std::alloc::{AllocError, Global};
+use std::collections::BTreeMap;
+
+/// A value put on the heap, where there is one. Fails where memory runs out, and then gives it up.
+pub(crate) fn boxed_if_any<T: Drop>(
+    alloc: Global,
+    value: Option<T>,
+) -> Result<Option<Box<T>>, AllocError>
+    ensures { IfOk result (λ boxed. IsBoxedIfAny value boxed) }
+{
+    match value {
+        Some(value) => Ok(Some(Box::new(alloc, value)?)),
+        None => Ok(None),
+    }
+}
+
+/// Puts each pair that an iterator gives into a map, in place of an earlier one of that name. The iterator has to end.
+/// Fails where memory runs out, and then some pairs were put.
+pub(crate) fn put_each<T: Drop, I: Iterator<Item = (String, T)> + Drop>(
+    map: &mut BTreeMap<String, T>,
+    pairs: I,
+) -> Result<(), AllocError>
+    requires can { I.can_next pairs }
+    requires ends { IsFinite (I.remaining pairs) }
+    ensures { OnOk result ((given : Pairs T) × Drains I.next_gives pairs given × (map.new.entries ≡ put_each given map.old.entries)) }
+{
+    for (name, value) in pairs {
+        drop(map.insert(name, value)?);
+    }
+    Ok(())
+}

@@ -1,0 +1,9 @@
+//! Contents of media types, their encodings, headers and links, under the modules of the original crate.
+#![tactic(auto)]
+
+pub mod content;
+pub mod encoding;
+mod fill;
+pub mod header;
+pub mod link;
+mod types;
