@@ -107,7 +107,7 @@ def words_of(text):
 
 
 # The types that are built and read by a table of their own. MutualTls serves a variant of SecurityScheme.
-SWEPT = """Ref Info Contact License ExternalDocs Server ServerVariable Tag Xml Example Object Array OneOf AllOf AnyOf
+SWEPT = """Ref Info Contact License ExternalDocs Server ServerVariable Tag Xml Example Link Object Array OneOf AllOf AnyOf
     Discriminator ApiKeyValue Http OpenIdConnect MutualTls OAuth2 Scopes Implicit Password ClientCredentials
     AuthorizationCode DeviceAuthorization""".split()
 

@@ -6,6 +6,7 @@ use utoipa_leaf::external_docs::ExternalDocs;
 use utoipa_leaf::info::{Contact, Info, License};
 use utoipa_leaf::server::{Server, ServerVariable};
 use utoipa_leaf::tag::Tag;
+use utoipa_media::link::Link;
 use utoipa_schema::{AllOf, AnyOf, Array, Object, OneOf, Schema};
 use utoipa_schema_parts::Discriminator;
 use utoipa_security::security::{
@@ -62,6 +63,12 @@ impl Extended for Tag {
 }
 
 impl Extended for Example {
+    fn set_extensions(&mut self, extensions: Extensions) {
+        self.extensions = Some(extensions);
+    }
+}
+
+impl Extended for Link {
     fn set_extensions(&mut self, extensions: Extensions) {
         self.extensions = Some(extensions);
     }

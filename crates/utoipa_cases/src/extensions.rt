@@ -11,6 +11,7 @@ use utoipa_leaf::external_docs::ExternalDocs;
 use utoipa_leaf::info::{Contact, Info, License};
 use utoipa_leaf::server::{Server, ServerVariable};
 use utoipa_leaf::tag::Tag;
+use utoipa_media::link::Link;
 use utoipa_schema::{AllOf, AnyOf, Array, Object, OneOf, Schema};
 use utoipa_schema_parts::Discriminator;
 use utoipa_security::security::{
@@ -56,6 +57,7 @@ fn of_leaves(
         "ServerVariable" => with_extensions::<ServerVariable>(alloc, tree, extensions),
         "Tag" => with_extensions::<Tag>(alloc, tree, extensions),
         "Example" => with_extensions::<Example>(alloc, tree, extensions),
+        "Link" => with_extensions::<Link>(alloc, tree, extensions),
         _ => of_schemas(alloc, name, tree, extensions),
     }
 }

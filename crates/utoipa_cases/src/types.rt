@@ -12,6 +12,7 @@ use utoipa_leaf::path::{HttpMethod, ParameterIn, ParameterStyle};
 use utoipa_leaf::server::{Server, ServerVariable};
 use utoipa_leaf::tag::Tag;
 use utoipa_leaf::version::OpenApiVersion;
+use utoipa_media::link::Link;
 use utoipa_schema::{AdditionalProperties, AllOf, AnyOf, Array, ArrayItems, Object, OneOf, Schema};
 use utoipa_schema_parts::{Discriminator, KnownFormat, SchemaFormat, SchemaType, TypeWord, Xml};
 use utoipa_security::security::{
@@ -71,6 +72,7 @@ fn of_containers(
         "RefOr<Value>" => answered::<RefOr<Value>>(alloc, question, tree),
         "RefOr<Vec<String>>" => answered::<RefOr<Vec<String>>>(alloc, question, tree),
         "RefOr<Example>" => answered::<RefOr<Example>>(alloc, question, tree),
+        "RefOr<Link>" => answered::<RefOr<Link>>(alloc, question, tree),
         "RefOr<Schema>" => answered::<RefOr<Schema>>(alloc, question, tree),
         "Vec<RefOr<Schema>>" => answered::<Vec<RefOr<Schema>>>(alloc, question, tree),
         "BTreeMap<String, RefOr<Schema>>" => {
@@ -96,6 +98,7 @@ fn of_leaves(
         "Tag" => answered::<Tag>(alloc, question, tree),
         "Xml" => answered::<Xml>(alloc, question, tree),
         "Example" => answered::<Example>(alloc, question, tree),
+        "Link" => answered::<Link>(alloc, question, tree),
         "OpenApiVersion" => answered::<OpenApiVersion>(alloc, question, tree),
         "HttpMethod" => answered::<HttpMethod>(alloc, question, tree),
         "ParameterIn" => answered::<ParameterIn>(alloc, question, tree),
