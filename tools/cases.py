@@ -141,8 +141,8 @@ class Format:
         """A value that fits the kind, one that doesn't, and how that is refused."""
         if kind.startswith("list of "):
             return [self.fitting(kind[8:])], 5, "kind"
-        if kind.startswith("map of "):
-            return {"k": self.fitting(kind[7:])}, 5, "kind"
+        if kind.startswith(("map of ", "ordered map of ")):
+            return {"k": self.fitting(kind.partition("map of ")[2])}, 5, "kind"
         if kind.startswith("ref or "):
             return {"$ref": "#/a"}, 5, self.of(kind[7:])[2]
         if kind in self.words:

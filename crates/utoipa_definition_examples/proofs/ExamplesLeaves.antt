@@ -2,14 +2,14 @@
 use Rattle.std.specs.Prelude.{◌≡◌, Float, pos, negsuc, [], ◌∷◌, true, false, codes, None, Some, refl}
 use Rattle.serde_json.specs.Data.{negative, float, null, boolean, number, no_members}
 use Rattle.serde_json.specs.Written.{has_float}
-use Rattle.utoipa_base.specs.Kinds.{contact_object, server_object, external_docs_object, example_object, link_object, reference_object, discriminator_object, xml_object, parameter_in, http_auth_scheme, text, flag, whole, numeral, word_of, version, list_of, ref_or, named}
-use Rattle.utoipa_base.specs.Docs.{text_doc, int_doc, uint_doc, tree_doc, word_doc, some_doc, ref_doc}
+use Rattle.utoipa_base.specs.Kinds.{contact_object, server_object, external_docs_object, example_object, link_object, reference_object, discriminator_object, xml_object, parameter_in, http_auth_scheme, text, flag, whole, numeral, word_of, version, list_of, ordered_map_of, ref_or, named}
+use Rattle.utoipa_base.specs.Docs.{Doc, text_doc, flag_doc, int_doc, uint_doc, tree_doc, word_doc, some_doc, ref_doc, ordered_map_doc}
 use Rattle.utoipa_base.specs.Version.{read_version}
 use Rattle.utoipa_base.specs.Reading.{reader}
 use Rattle.utoipa_base.specs.Writing.{write}
 use Rattle.utoipa_base.specs.NormalForm.{normal_form}
 use Rattle.utoipa_base.specs.WellFormed.{has_fraction}
-use Rattle.utoipa_definition_examples.proofs.ExampleTrees.{members, members_of, list, str, num, Prints, Keeps, IsRefused, IsReadAs, built}
+use Rattle.utoipa_definition_examples.proofs.ExampleTrees.{members, members_of, list, str, num, Prints, Keeps, IsRefused, IsReadAs, built, entries}
 
 -- ---- Server Object
 
@@ -324,6 +324,49 @@ map_of_trees = refl
 link_null_body : Prints (named link_object) (members (("operationId", str "") ∷ ("requestBody", null) ∷ [])) (members [])
 unfolding reader write
 link_null_body = refl
+
+-- ---- maps that keep their order
+
+-- such a map of two flags
+abbrev b_before_a : Doc
+b_before_a = ordered_map_doc (entries (("b", flag_doc true) ∷ ("a", flag_doc false) ∷ []))
+
+abbrev a_before_b : Doc
+a_before_b = ordered_map_doc (entries (("a", flag_doc false) ∷ ("b", flag_doc true) ∷ []))
+
+-- the order is of the document
+order_differs : b_before_a ≡ a_before_b → ⊥
+order_differs e = cc
+
+-- whatever the order of a tree's members, it is read in the order of the names
+order_read : IsReadAs (ordered_map_of flag) (members (("b", boolean true) ∷ ("a", boolean false) ∷ [])) a_before_b
+unfolding reader
+order_read = refl
+
+-- a map that stands in another order is written in that of the names
+order_written : write b_before_a ≡ members (("a", boolean false) ∷ ("b", boolean true) ∷ [])
+unfolding write
+order_written = refl
+
+-- and the normal form stands in it
+order_of_normal_form : normal_form b_before_a ≡ a_before_b
+unfolding normal_form
+order_of_normal_form = refl
+
+-- entries in that order are in normal form
+order_in_normal_form : normal_form a_before_b ≡ a_before_b
+unfolding normal_form
+order_in_normal_form = refl
+
+-- a list is no such map
+order_of_list : IsRefused (ordered_map_of flag) (list (boolean true ∷ []))
+unfolding reader
+order_of_list = refl
+
+-- such a map fits only where each entry fits
+order_with_another : IsRefused (ordered_map_of flag) (members (("a", boolean false) ∷ ("b", num 1) ∷ []))
+unfolding reader
+order_with_another = refl
 
 -- ---- fractions
 

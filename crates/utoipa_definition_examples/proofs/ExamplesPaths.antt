@@ -2,11 +2,12 @@
 use Rattle.std.specs.Prelude.{◌≡◌, [], ◌∷◌, true, false, codes, None, Some, refl}
 use Rattle.serde_json.specs.Data.{null, boolean}
 use Rattle.utoipa_base.specs.Kinds.{open_api_object, components_object, path_item_object, operation_object, parameter_object, request_body_object, media_type_object, encoding_object, response_object, link_object, header_object, reference_object, ref_or, named}
-use Rattle.utoipa_base.specs.Docs.{text_doc, some_doc, ref_doc, own_doc, map_doc, entries_doc, no_entries}
+use Rattle.utoipa_base.specs.Docs.{Doc, text_doc, some_doc, ref_doc, own_doc, map_doc, ordered_map_doc, entries_doc, no_entries}
 use Rattle.utoipa_base.specs.Tables.{paths, responses, callback}
 use Rattle.utoipa_base.specs.Version.{read_version}
 use Rattle.utoipa_base.specs.Reading.{reader}
 use Rattle.utoipa_base.specs.Writing.{write}
+use Rattle.utoipa_base.specs.NormalForm.{normal_form}
 use Rattle.utoipa_base.specs.WellFormed.{IsUnambiguous}
 use Rattle.utoipa_definition_examples.proofs.ExampleTrees.{members, members_of, list, str, num, Prints, Keeps, IsRefused, IsReadAs, built, entries}
 
@@ -189,6 +190,33 @@ response_content = refl
 response_defaults : Prints (named response_object) (members (("content", members []) ∷ ("description", str "") ∷ ("headers", members []) ∷ ("links", members []) ∷ ("summary", str "") ∷ [])) (members (("summary", str "") ∷ []))
 unfolding reader write
 response_defaults = refl
+
+-- a response whose content in plain text stands before the one in JSON
+abbrev response_text_first : Doc
+response_text_first = built response_object (("content", ordered_map_doc (entries (("text/plain", own_doc (built media_type_object [] None)) ∷ ("application/json", own_doc (built media_type_object [] None)) ∷ []))) ∷ []) None
+
+abbrev response_json_first : Doc
+response_json_first = built response_object (("content", ordered_map_doc (entries (("application/json", own_doc (built media_type_object [] None)) ∷ ("text/plain", own_doc (built media_type_object [] None)) ∷ []))) ∷ []) None
+
+-- its contents are written in the order of their names
+response_contents : write response_text_first ≡ members (("content", members (("application/json", members []) ∷ ("text/plain", members []) ∷ [])) ∷ [])
+unfolding write
+response_contents = refl
+
+-- and read back in that order
+response_contents_back : IsReadAs (named response_object) (write response_text_first) response_json_first
+unfolding reader write
+response_contents_back = refl
+
+-- which is its normal form
+response_contents_normal : normal_form response_text_first ≡ response_json_first
+unfolding normal_form write
+response_contents_normal = refl
+
+-- contents in a list are refused
+response_content_list : IsRefused (named response_object) (members (("content", list []) ∷ []))
+unfolding reader
+response_content_list = refl
 
 -- ---- Parameter Object, Header Object, Request Body Object
 

@@ -19,6 +19,8 @@ mod info;
 #[cfg(test)]
 mod numbers;
 #[cfg(test)]
+mod ordered_maps;
+#[cfg(test)]
 mod printed;
 #[cfg(test)]
 mod references;

@@ -15,7 +15,7 @@ fn is_json_text(rt: &(impl Abort + AllocGlobal), json: Vec<u8>, expected: &str) 
 }
 
 // The value as JSON is the text, also after a bracket.
-fn is_json<T: Tree>(rt: &(impl Abort + AllocGlobal), value: &T, expected: &str) {
+pub fn is_json<T: Tree>(rt: &(impl Abort + AllocGlobal), value: &T, expected: &str) {
     let alone = value.to_json(rt.alloc()).expect(rt, "memory for a text");
     is_json_text(rt, alone, expected);
     let bracket = Vec::from_array(rt.alloc(), [b'[']).expect(rt, "memory for a byte");
