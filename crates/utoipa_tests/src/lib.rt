@@ -11,11 +11,15 @@ mod compared;
 #[cfg(test)]
 mod conversions;
 #[cfg(test)]
+mod entries;
+#[cfg(test)]
 mod example;
 #[cfg(test)]
 mod extensions;
 #[cfg(test)]
 mod info;
+#[cfg(test)]
+mod media;
 #[cfg(test)]
 mod numbers;
 #[cfg(test)]

@@ -8,7 +8,8 @@ use utoipa_leaf::tag::Tag;
 use utoipa_schema::{Object, Schema};
 use utoipa_schema_parts::TypeWord;
 
-fn is_json_text(rt: &(impl Abort + AllocGlobal), json: Vec<u8>, expected: &str) {
+// The bytes are the text.
+pub fn is_json_text(rt: &(impl Abort + AllocGlobal), json: Vec<u8>, expected: &str) {
     let shown = String::from_utf8_lossy(rt.alloc(), json.as_slice());
     let shown = shown.expect(rt, "memory for a text");
     is_text(rt, shown.as_str(), expected);

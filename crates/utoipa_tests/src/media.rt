@@ -1,0 +1,119 @@
+//! Contents, encodings, headers and links, as their constructors and builders make them.
+use crate::schema_parts::place_of;
+use crate::shared::{is_flag, is_number, is_text, is_written, text};
+use serde_json::Value;
+use std::process::Abort;
+use utoipa_base::{Ref, RefOr};
+use utoipa_leaf::example::Example;
+use utoipa_media::content::Content;
+use utoipa_media::encoding::Encoding;
+use utoipa_media::header::Header;
+use utoipa_media::link::Link;
+use utoipa_schema_parts::TypeWord;
+
+fn reference(rt: &(impl Abort + AllocGlobal), location: &str) -> Ref {
+    Ref::new(rt.alloc(), text(rt, location))
+}
+
+fn encoding_of(rt: &(impl Abort + AllocGlobal), content_type: &str) -> Encoding {
+    let content_type = text(rt, content_type);
+    Encoding::builder(rt.alloc())
+        .content_type(Some(content_type))
+        .build()
+}
+
+fn is_encoding_of(rt: &impl Abort, encoding: &Encoding, expected: &str) {
+    match &encoding.content_type {
+        Some(found) => is_text(rt, found.as_str(), expected),
+        None => is_text(rt, "no type", expected),
+    }
+}
+
+#[test]
+fn a_property_takes_its_later_encoding(rt: HostRuntime) {
+    let builder = Content::builder(rt.alloc());
+    let first = builder.encoding(text(&rt, "a"), encoding_of(&rt, "text/plain"));
+    let first = first.expect(&rt, "memory for an encoding");
+    let later = first.encoding(text(&rt, "a"), encoding_of(&rt, "image/png"));
+    let content = later.expect(&rt, "memory for an encoding").build();
+    is_number(&rt, content.encoding.len() as u64, 1);
+    match content.encoding.get("a") {
+        Some(encoding) => is_encoding_of(&rt, encoding, "image/png"),
+        None => is_text(&rt, "none", "an encoding"),
+    }
+}
+
+#[test]
+fn items_take_the_encodings_that_were_set(rt: HostRuntime) {
+    let given = Vec::from_array(rt.alloc(), [encoding_of(&rt, "a/a"), encoding_of(&rt, "b/b")]);
+    let given = given.expect(&rt, "memory for a list");
+    let builder = Encoding::builder(rt.alloc()).prefix_encoding(rt.alloc(), given.into_iter());
+    let builder = builder.expect(&rt, "memory for a list");
+    let builder = builder.item_encoding(rt.alloc(), Some(encoding_of(&rt, "c/c")));
+    let encoding = builder.expect(&rt, "memory for an encoding").build();
+    is_number(&rt, encoding.prefix_encoding.len() as u64, 2);
+    match &encoding.item_encoding {
+        Some(item) => is_encoding_of(&rt, item, "c/c"),
+        None => is_text(&rt, "none", "an encoding"),
+    }
+}
+
+#[test]
+fn a_name_holds_a_header_or_a_reference(rt: HostRuntime) {
+    let header = Header::new(rt.alloc(), place_of(&rt, TypeWord::Integer));
+    let builder = Encoding::builder(rt.alloc()).header(text(&rt, "a"), header);
+    let builder = builder.expect(&rt, "memory for a header");
+    let builder = builder.header_ref(text(&rt, "b"), reference(&rt, "#/b"));
+    let encoding = builder.expect(&rt, "memory for a header").build();
+    is_number(&rt, encoding.headers.len() as u64, 2);
+    match encoding.headers.get("a") {
+        Some(RefOr::T(header)) => is_flag(&rt, header.schema.is_some(), true),
+        _ => is_text(&rt, "none", "a header"),
+    }
+    match encoding.headers.get("b") {
+        Some(RefOr::Ref(found)) => is_text(&rt, found.ref_location.as_str(), "#/b"),
+        _ => is_text(&rt, "none", "a reference"),
+    }
+}
+
+#[test]
+fn a_header_holds_contents_by_their_types(rt: HostRuntime) {
+    let content = Content::new(rt.alloc(), Some(place_of(&rt, TypeWord::String)));
+    let builder = Header::builder(rt.alloc()).content(text(&rt, "a/a"), RefOr::T(content));
+    let builder = builder.expect(&rt, "memory for a content");
+    let given = Vec::from_array(rt.alloc(), [(text(&rt, "b/b"), RefOr::Ref(reference(&rt, "#/b")))]);
+    let given = given.expect(&rt, "memory for a list");
+    let builder = builder.content_from_iter(given.into_iter());
+    let header = builder.expect(&rt, "memory for a content").build();
+    is_number(&rt, header.content.len() as u64, 2);
+    is_flag(&rt, header.schema.is_some(), true);
+}
+
+fn example_of(rt: &(impl Abort + AllocGlobal), summary: &str) -> RefOr<Example> {
+    let summary = text(rt, summary);
+    RefOr::T(Example::builder(rt.alloc()).summary(summary).build())
+}
+
+#[test]
+fn a_name_takes_its_later_example(rt: HostRuntime) {
+    let given = Vec::from_array(rt.alloc(), [(text(&rt, "a"), example_of(&rt, "first")), (text(&rt, "a"), example_of(&rt, "later"))]);
+    let given = given.expect(&rt, "memory for a list");
+    let builder = Content::builder(rt.alloc()).examples_from_iter(given.into_iter());
+    let content = builder.expect(&rt, "memory for examples").build();
+    is_number(&rt, content.examples.len() as u64, 1);
+    match content.examples.get("a") {
+        Some(RefOr::T(example)) => is_text(&rt, example.summary.as_str(), "later"),
+        _ => is_text(&rt, "none", "an example"),
+    }
+}
+
+#[test]
+fn a_link_is_written_with_what_was_set_alone(rt: HostRuntime) {
+    let builder = Link::builder(rt.alloc()).operation_id(text(&rt, "getUserAddress"));
+    let user = Value::try_from_str(rt.alloc(), "$request.path.id");
+    let user = user.expect(&rt, "memory for a text");
+    let built = builder.parameter(text(&rt, "userId"), user);
+    let link = built.expect(&rt, "memory for a parameter").build();
+    let expected = r#"{"operationId":"getUserAddress","parameters":{"userId":"$request.path.id"}}"#;
+    is_written(&rt, link, expected);
+}
