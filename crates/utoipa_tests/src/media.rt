@@ -45,7 +45,10 @@ fn a_property_takes_its_later_encoding(rt: HostRuntime) {
 
 #[test]
 fn items_take_the_encodings_that_were_set(rt: HostRuntime) {
-    let given = Vec::from_array(rt.alloc(), [encoding_of(&rt, "a/a"), encoding_of(&rt, "b/b")]);
+    let given = Vec::from_array(
+        rt.alloc(),
+        [encoding_of(&rt, "a/a"), encoding_of(&rt, "b/b")],
+    );
     let given = given.expect(&rt, "memory for a list");
     let builder = Encoding::builder(rt.alloc()).prefix_encoding(rt.alloc(), given.into_iter());
     let builder = builder.expect(&rt, "memory for a list");
@@ -81,7 +84,10 @@ fn a_header_holds_contents_by_their_types(rt: HostRuntime) {
     let content = Content::new(rt.alloc(), Some(place_of(&rt, TypeWord::String)));
     let builder = Header::builder(rt.alloc()).content(text(&rt, "a/a"), RefOr::T(content));
     let builder = builder.expect(&rt, "memory for a content");
-    let given = Vec::from_array(rt.alloc(), [(text(&rt, "b/b"), RefOr::Ref(reference(&rt, "#/b")))]);
+    let given = Vec::from_array(
+        rt.alloc(),
+        [(text(&rt, "b/b"), RefOr::Ref(reference(&rt, "#/b")))],
+    );
     let given = given.expect(&rt, "memory for a list");
     let builder = builder.content_from_iter(given.into_iter());
     let header = builder.expect(&rt, "memory for a content").build();
@@ -96,7 +102,13 @@ fn example_of(rt: &(impl Abort + AllocGlobal), summary: &str) -> RefOr<Example> 
 
 #[test]
 fn a_name_takes_its_later_example(rt: HostRuntime) {
-    let given = Vec::from_array(rt.alloc(), [(text(&rt, "a"), example_of(&rt, "first")), (text(&rt, "a"), example_of(&rt, "later"))]);
+    let given = Vec::from_array(
+        rt.alloc(),
+        [
+            (text(&rt, "a"), example_of(&rt, "first")),
+            (text(&rt, "a"), example_of(&rt, "later")),
+        ],
+    );
     let given = given.expect(&rt, "memory for a list");
     let builder = Content::builder(rt.alloc()).examples_from_iter(given.into_iter());
     let content = builder.expect(&rt, "memory for examples").build();
