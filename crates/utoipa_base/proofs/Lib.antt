@@ -6,6 +6,7 @@ pub mod ByName
 pub mod ExtensionMembers
 pub mod ByKind
 pub mod Maps
+pub mod Puts
 pub mod ByRows
 pub mod Places
 pub mod Empties
@@ -31,5 +32,6 @@ pub mod TableCounts
 pub mod Members
 pub mod Weights
 pub mod Tried
+pub mod Readers
 pub mod FieldsInOrder
 pub mod Tokens

@@ -21,6 +21,7 @@ pub mod Views
 pub mod Refs
 pub mod OfKind
 pub mod Lists
+pub mod Fill
 pub mod References
 pub mod Flags
 pub mod Numbers

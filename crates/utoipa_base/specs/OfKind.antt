@@ -2,7 +2,7 @@
 use Rattle.std.specs.Prelude.{ℕ, List, [], ◌∷◌, Bool, true, false, Option, None, Some, map, String, refl}
 use Rattle.std.specs.declared.alloc.Global.{Global}
 use Rattle.std.specs.BTreeMap.{BTreeMap}
-use Rattle.std.specs.Prelude.{Vec}
+use Rattle.std.specs.Prelude.{Vec, Box}
 use Rattle.indexmap.specs.IndexMap.{IndexMap}
 use Rattle.serde_json.specs.Data.{Members}
 use Rattle.serde_json.specs.declared.value.Value.{Value}
@@ -56,6 +56,10 @@ number_of_kind (UInt n) = refl
 pub tree_of_kind : (v : Value) → IsOf (views.tree_of v) (value_of any)
 unfolding IsOf
 tree_of_kind v = refl
+
+-- what a box holds
+pub boxed_of_kind : {X : Type 0} (f : X → Doc) (k : Kind) → ((x : X) → IsOf (f x) (value_of k)) → (b : Box X Global) → IsOf (views.boxed f b) (value_of k)
+boxed_of_kind f k each b = each b.value
 
 -- an option, where what may be in it is of the kind
 pub option_of_kind : {X : Type 0} (f : X → Doc) (k : Kind) → ((x : X) → IsOf (f x) (value_of k)) → (o : Option X) → IsOf (views.option_of f o) (option_of k)

@@ -1,5 +1,5 @@
 -- The documents of texts, options, lists and maps.
-use Rattle.std.specs.Prelude.{ℕ, List, [], ◌∷◌, Option, None, Some, option_map, map, String, string_bytes, Vec}
+use Rattle.std.specs.Prelude.{ℕ, List, [], ◌∷◌, Option, None, Some, option_map, map, String, string_bytes, Vec, Box}
 use Rattle.std.specs.BTreeMap.{BTreeMap}
 use Rattle.std.specs.declared.alloc.Global.{Global}
 use Rattle.std.specs.Borrow.{Bor}
@@ -20,6 +20,10 @@ tree_of v = tree_doc (view v)
 
 abbrev pub option_of : {X : Type 0} → (X → Doc) → Option X → Doc
 option_of f o = option_doc (option_map f o)
+
+-- what a box holds
+abbrev pub boxed : {X : Type 0} → (X → Doc) → Box X Global → Doc
+boxed f b = f b.value
 
 abbrev pub list_of_docs : {X : Type 0} → (X → Doc) → Vec X Global → Doc
 list_of_docs f v = list_doc (docs_of (map f v.items))

@@ -8,6 +8,7 @@ pub mod empty;
 pub mod entries;
 pub mod extensions;
 pub mod fault;
+pub mod fill;
 pub mod fraction;
 pub mod laws;
 pub mod lists;
@@ -37,6 +38,7 @@ pub use extensions::{
     written_extensions,
 };
 pub use fault::{ReadFault, fitting};
+pub use fill::{boxed_if_any, put_each};
 pub use fraction::{has_fraction, members_have_fraction};
 pub use lists::{list_from, list_if_any};
 pub use number::Number;

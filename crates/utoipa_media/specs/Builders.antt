@@ -1,6 +1,6 @@
 -- What the builders of contents, encodings and headers hold, and what the constructors make.
-use Rattle.std.specs.Prelude.{◌≡◌, List, [], ◌∷◌, Option, None, Some, String, string_cmp, Vec}
-use Rattle.std.specs.BTreeMap.{BTreeMap, insert_entry}
+use Rattle.std.specs.Prelude.{◌≡◌, [], Option, None, Some, String, Vec}
+use Rattle.std.specs.BTreeMap.{BTreeMap}
 use Rattle.std.specs.declared.alloc.Global.{Global}
 use Rattle.utoipa_base.specs.declared.refs.Ref.{Ref}
 use Rattle.utoipa_base.specs.declared.refs.RefOr.{RefOr}
@@ -18,15 +18,6 @@ use Rattle.utoipa_media.specs.declared.types.Header.{Header, Header-F, out-Heade
 use Rattle.utoipa_media.specs.declared.content.ContentBuilder.{ContentBuilder}
 use Rattle.utoipa_media.specs.declared.encoding.EncodingBuilder.{EncodingBuilder}
 use Rattle.utoipa_media.specs.declared.header.HeaderBuilder.{HeaderBuilder}
-
--- values under their names, in some order
-abbrev pub Pairs : Type 0 → Type 0
-Pairs X = List (String Global × X)
-
--- the entries of a map, with each of some pairs put in turn, so that the later of two of a name stays
-abbrev pub put_each : {X : Type 0} → Pairs X → Pairs X → Pairs X
-put_each [] es = es
-put_each (p ∷ ps) es = put_each ps (insert_entry string_cmp es p.0 p.1)
 
 -- examples and references to such, by their names
 abbrev pub Examples : Type 0

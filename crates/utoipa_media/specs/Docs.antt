@@ -9,10 +9,10 @@ use Rattle.utoipa_base.specs.Extensions.{extensions_view}
 use Rattle.utoipa_base.specs.Flags.{deprecated_doc}
 use Rattle.utoipa_base.specs.Kinds.{named, schema, example_object, media_type_object, encoding_object, header_object}
 use Rattle.utoipa_base.specs.Refs.{ref_or_doc}
-use Rattle.utoipa_base.specs.Views.{text_of, tree_of, option_of, list_of_docs, map_of_docs}
+use Rattle.utoipa_base.specs.Views.{boxed, text_of, tree_of, option_of, list_of_docs, map_of_docs}
 use Rattle.utoipa_leaf.specs.Example.{example_doc}
 use Rattle.utoipa_leaf.specs.Path.{parameter_style_doc}
-use Rattle.utoipa_schema.specs.Docs.{boxed, schema_doc}
+use Rattle.utoipa_schema.specs.Docs.{schema_doc}
 use Rattle.utoipa_media.specs.declared.types.Content.{Content, Content-F, out-Content}
 use Rattle.utoipa_media.specs.declared.types.Encoding.{Encoding, Encoding-F, fold-Encoding}
 use Rattle.utoipa_media.specs.declared.types.Header.{Header, Header-F, out-Header}

@@ -3,10 +3,9 @@ use Rattle.std.proofs.Common.{◌≡◌, ◌∙◌, refl, ap, List, [], ◌∷�
 use Rattle.utoipa_base.specs.Docs.{Doc, map_doc, entries_of_list}
 use Rattle.utoipa_base.specs.Kinds.{Kind, named, media_type_object, header_object}
 use Rattle.utoipa_base.specs.Refs.{ref_or_doc}
-use Rattle.utoipa_base.specs.Views.{pairs_of, option_of, list_of_docs, map_of_docs}
+use Rattle.utoipa_base.specs.Views.{boxed, pairs_of, option_of, list_of_docs, map_of_docs}
 use Rattle.utoipa_base.specs.declared.refs.RefOr.{RefOr}
 use Rattle.utoipa_base.specs.declared.refs.RefOr.TheVariants as made
-use Rattle.utoipa_schema.specs.Docs.{boxed}
 use Rattle.utoipa_media.specs.Layers.{content_natural, encoding_natural, header_natural}
 use Rattle.utoipa_media.specs.Docs.{as_is, content_layer, encoding_table, encoding_layer, header_table, header_layer, encoding_doc, content_doc, header_doc}
 use Rattle.utoipa_media.specs.declared.types.Content.{Content, fold-Content, fold_out-Content, out-Content}

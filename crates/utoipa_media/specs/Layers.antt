@@ -4,9 +4,8 @@ use Rattle.utoipa_base.specs.Docs.{Doc, docs_of, list_doc, map_doc, entries_of_l
 use Rattle.utoipa_base.specs.Kinds.{named, media_type_object, header_object}
 use Rattle.utoipa_base.specs.Mapped.{list_through, entries_through}
 use Rattle.utoipa_base.specs.Refs.{ref_or_doc}
-use Rattle.utoipa_base.specs.Views.{option_of}
+use Rattle.utoipa_base.specs.Views.{boxed, option_of}
 use Rattle.utoipa_base.specs.declared.refs.RefOr.TheVariants as made
-use Rattle.utoipa_schema.specs.Docs.{boxed}
 use Rattle.utoipa_media.specs.Docs.{content_table, content_layer, encoding_table, encoding_layer, header_table, header_layer}
 use Rattle.utoipa_media.specs.declared.types.Content.{Content-F, map-Content}
 use Rattle.utoipa_media.specs.declared.types.Encoding.{Encoding-F, map-Encoding}

@@ -2,5 +2,6 @@ pub mod Docs
 pub mod Layers
 pub mod Folds
 pub mod OfKind
+pub mod Parts
 pub mod Builders
 pub mod Link

@@ -4,13 +4,13 @@ use Rattle.utoipa_base.specs.Docs.{Doc, flag_doc}
 use Rattle.utoipa_base.specs.Extensions.{extensions_view}
 use Rattle.utoipa_base.specs.Flags.{deprecated_doc}
 use Rattle.utoipa_base.specs.Kinds.{Kind, text, flag, any, word_of, parameter_style, named, ref_or, schema, example_object, media_type_object, encoding_object, header_object}
-use Rattle.utoipa_base.specs.OfKind.{text_of_kind, flag_of_kind, deprecated_of_kind, tree_of_kind, option_of_kind, list_of_kind, map_of_kind, ref_or_of_kind, extends_of_kind, no_rows, next_row, table_of_kind}
+use Rattle.utoipa_base.specs.OfKind.{text_of_kind, flag_of_kind, deprecated_of_kind, tree_of_kind, option_of_kind, list_of_kind, map_of_kind, ref_or_of_kind, boxed_of_kind, extends_of_kind, no_rows, next_row, table_of_kind}
 use Rattle.utoipa_base.specs.Refs.{ref_or_doc}
 use Rattle.utoipa_base.specs.Shape.{IsOf, value_of}
-use Rattle.utoipa_base.specs.Views.{text_of, tree_of}
+use Rattle.utoipa_base.specs.Views.{boxed, text_of, tree_of}
 use Rattle.utoipa_leaf.specs.Example.{example_doc, example_of_kind}
 use Rattle.utoipa_leaf.specs.Path.{parameter_style_doc, parameter_style_of_kind}
-use Rattle.utoipa_schema.specs.Docs.{boxed, schema_doc}
+use Rattle.utoipa_schema.specs.Docs.{schema_doc}
 use Rattle.utoipa_schema.specs.OfKind.{schema_of_kind}
 use Rattle.utoipa_media.specs.Docs.{content_layer, encoding_layer, header_layer, content_doc, encoding_doc, header_doc}
 use Rattle.utoipa_media.specs.Folds.{encoding_is}
@@ -18,9 +18,6 @@ use Rattle.utoipa_media.specs.Layers.{content_natural, encoding_natural, header_
 use Rattle.utoipa_media.specs.declared.types.Content.{Content, Content-F, out-Content, out-roll-Content}
 use Rattle.utoipa_media.specs.declared.types.Encoding.{Encoding, Encoding-F, ind-Encoding, out-roll-Encoding}
 use Rattle.utoipa_media.specs.declared.types.Header.{Header, Header-F, out-Header, out-roll-Header}
-
-boxed_of_kind : {X : Type 0} (f : X → Doc) (k : Kind) → ((x : X) → IsOf (f x) (value_of k)) → (b : Box X Global) → IsOf (boxed f b) (value_of k)
-boxed_of_kind f k each b = each b.value
 
 content_layer_of_kind : {C E H : Type 0} (f : E → Doc) → ((e : E) → IsOf (f e) (value_of (named encoding_object))) → (x : Content-F C E H) → IsOf (content_layer f x) (value_of (named media_type_object))
 content_layer_of_kind f each x =

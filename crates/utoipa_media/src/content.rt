@@ -2,21 +2,20 @@
 ghost use Rattle.std.specs.Prelude.{◌≡◌, None, IfOk, string_cmp};
 ghost use Rattle.std.specs.BTreeMap.{insert_entry};
 ghost use Rattle.std.specs.Iterator.{IsFinite, Drains};
+ghost use Rattle.utoipa_base.specs.Fill.{IsBoxedIfAny, Pairs, put_each};
 ghost use Rattle.utoipa_base.specs.declared.refs.RefOr.{RefOr};
 ghost use Rattle.utoipa_base.specs.Lists.{IsFilledFrom};
 ghost use Rattle.utoipa_leaf.specs.declared.example.Example.{Example};
-ghost use Rattle.utoipa_media.specs.Builders.{built_content, IsContentPlace, IsContentOf, Pairs, put_each, Examples, Encodings, ItemEncodings};
-ghost use Rattle.utoipa_schema.specs.Builders.{IsBoxedIfAny};
+ghost use Rattle.utoipa_media.specs.Builders.{built_content, IsContentPlace, IsContentOf, Examples, Encodings, ItemEncodings};
 ghost use Rattle.utoipa_media.specs.declared.types.Content.{out-Content};
 
 use crate::encoding::Encoding;
-use crate::fill::{boxed_if_any, put_each};
 pub use crate::types::Content;
 use serde_json::Value;
 use std::alloc::{AllocError, Global};
 use std::collections::BTreeMap;
 use std::mem;
-use utoipa_base::{Extensions, RefOr, list_from};
+use utoipa_base::{Extensions, RefOr, boxed_if_any, list_from, put_each};
 use utoipa_leaf::example::Example;
 use utoipa_schema::Schema;
 

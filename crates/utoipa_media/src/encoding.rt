@@ -2,18 +2,17 @@
 ghost use Rattle.std.specs.Prelude.{◌≡◌, IfOk, string_cmp};
 ghost use Rattle.std.specs.BTreeMap.{insert_entry};
 ghost use Rattle.std.specs.Iterator.{IsFinite};
+ghost use Rattle.utoipa_base.specs.Fill.{IsBoxedIfAny};
 ghost use Rattle.utoipa_base.specs.Lists.{IsFilledFrom};
 ghost use Rattle.utoipa_media.specs.Builders.{built_encoding, header_place, header_reference, IsEmptyEncoding, Encodings, Headers, ItemEncodings};
-ghost use Rattle.utoipa_schema.specs.Builders.{IsBoxedIfAny};
 ghost use Rattle.utoipa_media.specs.declared.types.Encoding.{out-Encoding};
 
-use crate::fill::boxed_if_any;
 use crate::header::Header;
 pub use crate::types::Encoding;
 use std::alloc::{AllocError, Global};
 use std::collections::BTreeMap;
 use std::mem;
-use utoipa_base::{Extensions, Ref, RefOr, list_from};
+use utoipa_base::{Extensions, Ref, RefOr, boxed_if_any, list_from};
 use utoipa_leaf::path::ParameterStyle;
 
 impl Encoding {

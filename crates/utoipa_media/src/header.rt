@@ -2,19 +2,19 @@
 ghost use Rattle.std.specs.Prelude.{◌≡◌, IfOk, string_cmp};
 ghost use Rattle.std.specs.BTreeMap.{insert_entry};
 ghost use Rattle.std.specs.Iterator.{IsFinite, Drains};
+ghost use Rattle.utoipa_base.specs.Fill.{Pairs, put_each};
 ghost use Rattle.utoipa_base.specs.declared.refs.RefOr.{RefOr};
 ghost use Rattle.utoipa_leaf.specs.declared.example.Example.{Example};
-ghost use Rattle.utoipa_media.specs.Builders.{built_header, IsHeaderOf, IsStringHeader, Pairs, put_each, Contents, Examples};
+ghost use Rattle.utoipa_media.specs.Builders.{built_header, IsHeaderOf, IsStringHeader, Contents, Examples};
 ghost use Rattle.utoipa_media.specs.declared.types.Content.{Content};
 ghost use Rattle.utoipa_media.specs.declared.types.Header.{out-Header};
 
 use crate::content::Content;
-use crate::fill::put_each;
 pub use crate::types::Header;
 use serde_json::Value;
 use std::alloc::{AllocError, Global};
 use std::collections::BTreeMap;
-use utoipa_base::{Deprecated, Extensions, RefOr};
+use utoipa_base::{Deprecated, Extensions, RefOr, put_each};
 use utoipa_leaf::example::Example;
 use utoipa_leaf::path::ParameterStyle;
 use utoipa_schema::{Object, Schema, SchemaType, TypeWord};

@@ -3,7 +3,7 @@
 
 pub mod content;
 pub mod encoding;
-mod fill;
 pub mod header;
 pub mod link;
+mod rows;
 mod types;

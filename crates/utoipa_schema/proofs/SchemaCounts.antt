@@ -11,9 +11,9 @@ use Rattle.utoipa_base.proofs.ByRows.{table_refused, fields-first}
 use Rattle.utoipa_base.proofs.Places.{schema_count-none}
 use Rattle.utoipa_base.proofs.TableParts.{join-later}
 use Rattle.utoipa_schema.specs.Choice.{content_schema_row, ContentSchema, content_schema_doc}
-use Rattle.utoipa_schema.specs.Docs.{schema_doc, array_items_doc, array_doc, object_doc, boxed, additional_properties_doc}
+use Rattle.utoipa_schema.specs.Docs.{schema_doc, array_items_doc, array_doc, object_doc, additional_properties_doc}
 use Rattle.utoipa_base.specs.Refs.{ref_or_doc}
-use Rattle.utoipa_base.specs.Views.{option_of, list_of_docs, map_of_docs}
+use Rattle.utoipa_base.specs.Views.{boxed, option_of, list_of_docs, map_of_docs}
 use Rattle.utoipa_base.specs.declared.refs.RefOr.{RefOr}
 use Rattle.utoipa_schema.specs.declared.types.AdditionalProperties.{AdditionalProperties}
 use Rattle.utoipa_schema.specs.declared.types.ArrayItems.{ArrayItems}

@@ -1,5 +1,5 @@
 -- What the builders of schemas hold, and what the constructors make.
-use Rattle.std.specs.Prelude.{◌≡◌, false, List, [], ◌∷◌, Option, None, Some, option_map, String, string_bytes, Vec, Box}
+use Rattle.std.specs.Prelude.{◌≡◌, false, List, [], ◌∷◌, Option, None, Some, String, string_bytes, Vec, Box}
 use Rattle.std.specs.BTreeMap.{BTreeMap}
 use Rattle.std.specs.declared.alloc.Global.{Global}
 use Rattle.serde_json.specs.declared.value.Value.{Value}
@@ -101,10 +101,6 @@ one_array = types.Single words.Array
 -- the type of any value
 abbrev pub any_value : SchemaType
 any_value = types.AnyValue
-
--- there is a box where there is a value, and it holds that value
-abbrev pub IsBoxedIfAny : {X : Type 0} → Option X → Option (Box X Global) → Type 0
-IsBoxedIfAny given boxed = option_map (λ b. b.value) boxed ≡ given
 
 -- the object is of these types, and nothing else is said of it
 abbrev pub IsEmptyObject : SchemaType → Object → Type 0

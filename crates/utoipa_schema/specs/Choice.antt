@@ -11,9 +11,9 @@ use Rattle.utoipa_base.specs.Kinds.{schema, ref_or, named, one_of_schema, all_of
 use Rattle.utoipa_base.specs.Reading.{read}
 use Rattle.utoipa_base.specs.Refs.{ref_or_doc}
 use Rattle.utoipa_base.specs.Tables.{row}
-use Rattle.utoipa_base.specs.Views.{option_of}
+use Rattle.utoipa_base.specs.Views.{boxed, option_of}
 use Rattle.utoipa_base.specs.declared.refs.RefOr.{RefOr}
-use Rattle.utoipa_schema.specs.Docs.{boxed, schema_doc}
+use Rattle.utoipa_schema.specs.Docs.{schema_doc}
 use Rattle.utoipa_schema.specs.declared.types.Schema.{Schema}
 
 -- whether a tree that is no combination and no array may be an object: it names `type`, or none of the schema keywords

@@ -12,7 +12,7 @@ use Rattle.utoipa_base.specs.Kinds.{schema, one_of_schema, all_of_schema, any_of
 use Rattle.utoipa_base.specs.Numbers.{number_doc}
 use Rattle.utoipa_base.specs.Refs.{ref_or_doc}
 use Rattle.utoipa_base.specs.declared.refs.RefOr.{RefOr}
-use Rattle.utoipa_base.specs.Views.{text_of, tree_of, option_of, list_of_docs, map_of_docs}
+use Rattle.utoipa_base.specs.Views.{boxed, text_of, tree_of, option_of, list_of_docs, map_of_docs}
 use Rattle.utoipa_schema_parts.specs.Xml.{xml_doc}
 use Rattle.utoipa_schema_parts.specs.Discriminator.{discriminator_doc}
 use Rattle.utoipa_schema_parts.specs.Format.{schema_format_doc}
@@ -26,10 +26,6 @@ use Rattle.utoipa_schema.specs.declared.types.Array.{Array, Array-F, out-Array}
 use Rattle.utoipa_schema.specs.declared.types.OneOf.{OneOf, OneOf-F, out-OneOf}
 use Rattle.utoipa_schema.specs.declared.types.AllOf.{AllOf, AllOf-F, out-AllOf}
 use Rattle.utoipa_schema.specs.declared.types.AnyOf.{AnyOf, AnyOf-F, out-AnyOf}
-
--- what a box holds
-abbrev pub boxed : {X : Type 0} → (X → Doc) → Box X Global → Doc
-boxed f b = f b.value
 
 -- additional properties: a schema or a reference, or whether there may be any
 abbrev pub additional_properties_doc : {X : Type 0} → (X → Doc) → AdditionalProperties X → Doc

@@ -4,10 +4,10 @@ use Rattle.utoipa_base.specs.Docs.{Doc, docs_of, list_doc, map_doc, entries_of_l
 use Rattle.utoipa_base.specs.Kinds.{schema}
 use Rattle.utoipa_base.specs.Mapped.{list_through, entries_through}
 use Rattle.utoipa_base.specs.Refs.{ref_or_doc}
-use Rattle.utoipa_base.specs.Views.{option_of, list_of_docs, map_of_docs}
+use Rattle.utoipa_base.specs.Views.{boxed, option_of, list_of_docs, map_of_docs}
 use Rattle.utoipa_base.specs.declared.refs.RefOr.{RefOr}
 use Rattle.utoipa_base.specs.declared.refs.RefOr.TheVariants as made
-use Rattle.utoipa_schema.specs.Docs.{boxed, additional_properties_doc, items_layer, one_of_table, one_of_layer, all_of_table, all_of_layer, any_of_table, any_of_layer, array_table, array_layer, object_table, object_layer}
+use Rattle.utoipa_schema.specs.Docs.{additional_properties_doc, items_layer, one_of_table, one_of_layer, all_of_table, all_of_layer, any_of_table, any_of_layer, array_table, array_layer, object_table, object_layer}
 use Rattle.utoipa_schema.specs.declared.types.AdditionalProperties.{AdditionalProperties}
 use Rattle.utoipa_schema.specs.declared.types.AdditionalProperties.TheVariants as additional
 use Rattle.utoipa_schema.specs.declared.types.ArrayItems.{ArrayItems-F, map-ArrayItems}

@@ -6,10 +6,10 @@ use Rattle.utoipa_base.specs.Extensions.{extensions_view}
 use Rattle.utoipa_base.specs.Flags.{deprecated_doc}
 use Rattle.utoipa_base.specs.Kinds.{Kind, text, flag, whole, numeral, any, list_of, named, ref_or, schema, schema_format, array_items, additional_properties, discriminator_object, xml_object, one_of_schema, all_of_schema, any_of_schema, array_schema, object_schema}
 use Rattle.utoipa_base.specs.Numbers.{number_doc}
-use Rattle.utoipa_base.specs.OfKind.{text_of_kind, flag_of_kind, whole_of_kind, deprecated_of_kind, number_of_kind, tree_of_kind, option_of_kind, list_of_kind, map_of_kind, reference_of_kind, ref_or_of_kind, extends_of_kind, no_rows, next_row, table_of_kind}
+use Rattle.utoipa_base.specs.OfKind.{text_of_kind, flag_of_kind, whole_of_kind, deprecated_of_kind, number_of_kind, tree_of_kind, option_of_kind, list_of_kind, map_of_kind, reference_of_kind, ref_or_of_kind, boxed_of_kind, extends_of_kind, no_rows, next_row, table_of_kind}
 use Rattle.utoipa_base.specs.Refs.{ref_or_doc}
 use Rattle.utoipa_base.specs.Shape.{IsOf, value_of}
-use Rattle.utoipa_base.specs.Views.{text_of, tree_of, list_of_docs}
+use Rattle.utoipa_base.specs.Views.{boxed, text_of, tree_of, list_of_docs}
 use Rattle.utoipa_base.specs.declared.refs.RefOr.{RefOr}
 use Rattle.utoipa_base.specs.declared.refs.RefOr.TheVariants as made
 use Rattle.utoipa_schema_parts.specs.Xml.{xml_doc, xml_of_kind}
@@ -18,7 +18,7 @@ use Rattle.utoipa_schema_parts.specs.Format.{schema_format_doc, schema_format_of
 use Rattle.utoipa_schema_parts.specs.Types.{schema_type_of_kind}
 use Rattle.utoipa_schema.specs.Folds.{items_roll, schema_roll-Array, schema_roll-Object, schema_roll-OneOf, schema_roll-AllOf, schema_roll-AnyOf}
 use Rattle.utoipa_schema.specs.Layers.{items_natural, one_of_natural, all_of_natural, any_of_natural, array_natural, object_natural}
-use Rattle.utoipa_schema.specs.Docs.{boxed, additional_properties_doc, items_layer, places_doc, one_of_layer, all_of_layer, any_of_layer, array_layer, object_layer, schema_doc, array_items_doc, one_of_doc, all_of_doc, any_of_doc, array_doc, object_doc}
+use Rattle.utoipa_schema.specs.Docs.{additional_properties_doc, items_layer, places_doc, one_of_layer, all_of_layer, any_of_layer, array_layer, object_layer, schema_doc, array_items_doc, one_of_doc, all_of_doc, any_of_doc, array_doc, object_doc}
 use Rattle.utoipa_schema.specs.declared.types.AdditionalProperties.{AdditionalProperties}
 use Rattle.utoipa_schema.specs.declared.types.AdditionalProperties.TheVariants as additional
 use Rattle.utoipa_schema.specs.declared.types.ArrayItems.{ArrayItems, ArrayItems-F, out-ArrayItems, roll-out-ArrayItems}
@@ -28,9 +28,6 @@ use Rattle.utoipa_schema.specs.declared.types.Array.{Array, Array-F, out-Array, 
 use Rattle.utoipa_schema.specs.declared.types.OneOf.{OneOf, OneOf-F, out-OneOf, out-roll-OneOf}
 use Rattle.utoipa_schema.specs.declared.types.AllOf.{AllOf, AllOf-F, out-AllOf, out-roll-AllOf}
 use Rattle.utoipa_schema.specs.declared.types.AnyOf.{AnyOf, AnyOf-F, out-AnyOf, out-roll-AnyOf}
-
-boxed_of_kind : {X : Type 0} (f : X → Doc) (k : Kind) → ((x : X) → IsOf (f x) (value_of k)) → (b : Box X Global) → IsOf (boxed f b) (value_of k)
-boxed_of_kind f k each b = each b.value
 
 places_of_kind : {S : Type 0} (f : S → Doc) → ((s : S) → IsOf (f s) (value_of schema)) → (v : Vec (RefOr S) Global) → IsOf (places_doc f v) (value_of (list_of (ref_or schema)))
 places_of_kind f each = list_of_kind (ref_or_doc schema f) (ref_or schema) (ref_or_of_kind f schema each)

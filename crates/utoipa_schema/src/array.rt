@@ -1,18 +1,18 @@
 //! Schemas of arrays.
 ghost use Rattle.std.specs.Prelude.{◌≡◌, IfOk};
 ghost use Rattle.std.specs.Iterator.{IsFinite};
+ghost use Rattle.utoipa_base.specs.Fill.{IsBoxedIfAny};
 ghost use Rattle.utoipa_base.specs.Lists.{IsFilledFrom};
 ghost use Rattle.utoipa_base.specs.declared.refs.Ref.{Ref};
 ghost use Rattle.utoipa_base.specs.declared.refs.RefOr.{RefOr};
 ghost use Rattle.utoipa_schema.specs.declared.types.Schema.{Schema};
-ghost use Rattle.utoipa_schema.specs.Builders.{built_array, array_place, object_place, reference_place, one_array, any_value, IsArrayOf, IsArrayWith, IsNullableArrayOf, IsItemsOf, IsTypesOf, array_and_null, IsEmptyObject, IsBoxedIfAny, Schemas, Values};
+ghost use Rattle.utoipa_schema.specs.Builders.{built_array, array_place, object_place, reference_place, one_array, any_value, IsArrayOf, IsArrayWith, IsNullableArrayOf, IsItemsOf, IsTypesOf, array_and_null, IsEmptyObject, Schemas, Values};
 
-use crate::conversions::boxed_if_any;
 use crate::types::{Array, ArrayItems, Object, Schema};
 use serde_json::Value;
 use std::alloc::{AllocError, Global};
 use std::mem;
-use utoipa_base::{Deprecated, Extensions, Ref, RefOr, list_from};
+use utoipa_base::{Deprecated, Extensions, Ref, RefOr, boxed_if_any, list_from};
 use utoipa_schema_parts::{SchemaType, TypeWord, Xml};
 
 impl Array {

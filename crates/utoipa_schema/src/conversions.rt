@@ -2,7 +2,7 @@
 ghost use Rattle.std.specs.Prelude.{◌≡◌, IfOk, OnErr};
 ghost use Rattle.utoipa_base.specs.References.{built_reference};
 ghost use Rattle.utoipa_base.specs.declared.refs.RefOr.TheVariants as places;
-ghost use Rattle.utoipa_schema.specs.Builders.{built_object, built_array, built_one_of, built_all_of, built_any_of, object_place, array_place, one_of_place, all_of_place, any_of_place, IsBoxedIfAny};
+ghost use Rattle.utoipa_schema.specs.Builders.{built_object, built_array, built_one_of, built_all_of, built_any_of, object_place, array_place, one_of_place, all_of_place, any_of_place};
 ghost use Rattle.utoipa_schema.specs.declared.types.AdditionalProperties.TheVariants as additions;
 ghost use Rattle.utoipa_schema.specs.declared.types.Schema.TheVariants as schemas;
 
@@ -12,7 +12,6 @@ use crate::array::ArrayBuilder;
 use crate::object::ObjectBuilder;
 use crate::one_of::OneOfBuilder;
 use crate::types::{AdditionalProperties, AllOf, AnyOf, Array, Object, OneOf, Schema};
-use std::alloc::{AllocError, Global};
 use thiserror::Error;
 use utoipa_base::{Ref, RefBuilder, RefOr};
 
@@ -29,19 +28,6 @@ pub fn schema_from_ref_or(place: RefOr<Schema>) -> Result<Schema, IsReference>
     match place {
         RefOr::T(schema) => Ok(schema),
         RefOr::Ref(_) => Err(IsReference),
-    }
-}
-
-/// A value put on the heap, where there is one. Fails where memory runs out, and then gives it up.
-pub(crate) fn boxed_if_any<T: Drop>(
-    alloc: Global,
-    value: Option<T>,
-) -> Result<Option<Box<T>>, AllocError>
-    ensures { IfOk result (λ boxed. IsBoxedIfAny value boxed) }
-{
-    match value {
-        Some(value) => Ok(Some(Box::new(alloc, value)?)),
-        None => Ok(None),
     }
 }
 

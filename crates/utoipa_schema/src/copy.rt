@@ -5,9 +5,9 @@
 ghost use Rattle.std.specs.Prelude.{◌≡◌, IfOk};
 ghost use Rattle.utoipa_base.specs.Kinds.{schema};
 ghost use Rattle.utoipa_base.specs.Refs.{ref_or_doc};
-ghost use Rattle.utoipa_base.specs.Views.{option_of, list_of_docs, map_of_docs};
+ghost use Rattle.utoipa_base.specs.Views.{boxed, option_of, list_of_docs, map_of_docs};
 ghost use Rattle.utoipa_schema.specs.Choice.{content_schema_doc};
-ghost use Rattle.utoipa_schema.specs.Docs.{boxed, places_doc, additional_properties_doc, schema_doc, array_items_doc, one_of_doc, all_of_doc, any_of_doc, array_doc, object_doc};
+ghost use Rattle.utoipa_schema.specs.Docs.{places_doc, additional_properties_doc, schema_doc, array_items_doc, one_of_doc, all_of_doc, any_of_doc, array_doc, object_doc};
 
 use crate::types::{AdditionalProperties, AllOf, AnyOf, Array, ArrayItems, Object, OneOf, Schema};
 use crate::without_schemas::array::{

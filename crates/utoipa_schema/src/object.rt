@@ -3,16 +3,16 @@ ghost use Rattle.std.specs.Prelude.{◌≡◌, ◌++◌, ◌∷◌, [], Some, Op
 ghost use Rattle.std.specs.BTreeMap.{insert_entry};
 ghost use Rattle.std.specs.Iterator.{IsFinite};
 ghost use Rattle.std.specs.Option.{ForSome};
+ghost use Rattle.utoipa_base.specs.Fill.{IsBoxedIfAny};
 ghost use Rattle.utoipa_base.specs.Lists.{IsFilledFrom, IsFilledIfAny};
-ghost use Rattle.utoipa_schema.specs.Builders.{built_object, built_array, object_place, one_object, one_array, IsEmptyObject, IsArrayOf, IsBoxedIfAny, IsEmptySchema, Texts, Values, Properties};
+ghost use Rattle.utoipa_schema.specs.Builders.{built_object, built_array, object_place, one_object, one_array, IsEmptyObject, IsArrayOf, IsEmptySchema, Texts, Values, Properties};
 
 use crate::array::ArrayBuilder;
-use crate::conversions::boxed_if_any;
 use crate::types::{AdditionalProperties, Object, Schema};
 use serde_json::Value;
 use std::alloc::{AllocError, Global};
 use std::collections::BTreeMap;
-use utoipa_base::{Deprecated, Extensions, Number, RefOr, list_from, list_if_any};
+use utoipa_base::{Deprecated, Extensions, Number, RefOr, boxed_if_any, list_from, list_if_any};
 use utoipa_schema_parts::{SchemaFormat, SchemaType, TypeWord, Xml};
 
 impl Object {

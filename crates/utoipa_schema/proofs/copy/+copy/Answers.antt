@@ -4,10 +4,10 @@ use Rattle.utoipa_base.specs.Docs.{some_doc, own_doc, ref_doc, list_doc, docs_of
 use Rattle.utoipa_base.specs.Docs as docs
 use Rattle.utoipa_base.specs.Kinds.{schema}
 use Rattle.utoipa_base.specs.Refs.{ref_or_doc}
-use Rattle.utoipa_base.specs.Views.{option_of}
+use Rattle.utoipa_base.specs.Views.{boxed, option_of}
 use Rattle.utoipa_base.specs.declared.refs.RefOr.{RefOr}
 use Rattle.utoipa_schema.specs.Choice.{content_schema_doc}
-use Rattle.utoipa_schema.specs.Docs.{boxed, additional_properties_doc, schema_doc, array_items_doc, one_of_doc, all_of_doc, any_of_doc, array_doc, object_doc}
+use Rattle.utoipa_schema.specs.Docs.{additional_properties_doc, schema_doc, array_items_doc, one_of_doc, all_of_doc, any_of_doc, array_doc, object_doc}
 use Rattle.utoipa_schema.specs.Folds.{schema-Array, schema-Object, schema-OneOf, schema-AllOf, schema-AnyOf, items-RefOrSchema}
 use Rattle.utoipa_schema.specs.declared.types.Schema.{Schema}
 use Rattle.utoipa_schema.proofs.SchemaCounts.{if_ok}

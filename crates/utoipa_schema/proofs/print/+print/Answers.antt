@@ -7,7 +7,7 @@ use Rattle.utoipa_base.specs.Pending.{pending_view}
 use Rattle.utoipa_base.specs.Printed.{Prints}
 use Rattle.utoipa_base.specs.Refs.{ref_or_doc, reference_doc}
 use Rattle.utoipa_base.specs.Tables.{row}
-use Rattle.utoipa_base.specs.Views.{option_of, list_of_docs, map_of_docs}
+use Rattle.utoipa_base.specs.Views.{boxed, option_of, list_of_docs, map_of_docs}
 use Rattle.utoipa_base.specs.Writing.{write}
 use Rattle.utoipa_base.specs.declared.refs.RefOr.{RefOr}
 use Rattle.utoipa_base.proofs.Empties.{vacant_slice, vacant_entries}
@@ -16,7 +16,7 @@ use Rattle.utoipa_base.proofs.Places.{write-ref, write-own}
 use Rattle.utoipa_base.proofs.Tokens.{token_added, printed_as, flag_printed, list_begun, list_step, list_printed, list_of_trees, entries_begun, entries_step, entries_printed, object_printed, map_of_trees}
 use Rattle.utoipa_base.proofs.Weights.{weight, lighter_item, lighter_member, lighter_some, lighter_schema, lighter_own}
 use Rattle.utoipa_schema.specs.Choice.{content_schema_doc}
-use Rattle.utoipa_schema.specs.Docs.{boxed, schema_doc, places_doc, array_items_doc, additional_properties_doc, one_of_doc, all_of_doc, any_of_doc, array_doc, object_doc}
+use Rattle.utoipa_schema.specs.Docs.{schema_doc, places_doc, array_items_doc, additional_properties_doc, one_of_doc, all_of_doc, any_of_doc, array_doc, object_doc}
 use Rattle.utoipa_schema.specs.Folds.{schema-Array, schema-Object, schema-OneOf, schema-AllOf, schema-AnyOf, items-False, items-RefOrSchema}
 use Rattle.utoipa_schema.specs.declared.types.Schema.{Schema}
 use Rattle.utoipa_schema.proofs.Choices.{write-schema}

@@ -2,12 +2,12 @@
 use Rattle.std.proofs.Common.{◌+◌, ◌*◌, take, map}
 use Rattle.utoipa_base.specs.Kinds.{schema}
 use Rattle.utoipa_base.specs.Refs.{ref_or_doc}
-use Rattle.utoipa_base.specs.Views.{option_of, list_of_docs, map_of_docs}
+use Rattle.utoipa_base.specs.Views.{boxed, option_of, list_of_docs, map_of_docs}
 use Rattle.utoipa_base.specs.Writing.{write}
 use Rattle.utoipa_base.proofs.Weights.{weight}
 use Rattle.utoipa_base.proofs.Tokens.{PrintsList, EntriesPrinted}
 use Rattle.utoipa_schema.specs.Choice.{content_schema_doc}
-use Rattle.utoipa_schema.specs.Docs.{boxed, places_doc, additional_properties_doc, schema_doc, array_items_doc, one_of_doc, all_of_doc, any_of_doc, array_doc, object_doc}
+use Rattle.utoipa_schema.specs.Docs.{places_doc, additional_properties_doc, schema_doc, array_items_doc, one_of_doc, all_of_doc, any_of_doc, array_doc, object_doc}
 use Rattle.utoipa_schema.proofs.print.+print.Given as goal
 
 abbrev pub decreases-print_schema : goal.decreases-print_schema

@@ -29,7 +29,7 @@ use Rattle.utoipa_schema.specs.Folds.{schema-Array, schema-Object, schema-OneOf,
 use Rattle.utoipa_schema.specs.Parts.{array_head_rows, object_head_rows}
 use Rattle.utoipa_schema.specs.declared.types.Schema as schemas
 use Rattle.utoipa_schema.proofs.Choices.{as_one_of, as_all_of, as_any_of, as_array as by_array, as_an_object, no_object, no_schema, items_false, items_true, items_place, additional_flag, additional_place}
-use Rattle.utoipa_schema.proofs.Readers.{refused_unread, passes_memory, memory_refuses, reads_value, value_is, refused_if_unfit, member_fewer, required_read, defaulted_read, optional_read, optional_refused, optional_null, optional_absent, table_read, item_fewer, entry_fewer}
+use Rattle.utoipa_base.proofs.Readers.{refused_unread, passes_memory, memory_refuses, reads_value, value_is, refused_if_unfit, member_fewer, required_read, defaulted_read, optional_read, optional_refused, optional_null, optional_absent, table_read, item_fewer, entry_fewer}
 use Rattle.utoipa_schema.proofs.MemberCounts.{one_of_counts, all_of_counts, any_of_counts}
 use Rattle.utoipa_schema.proofs.SchemaCounts.{counts_one, no_array, no_object_table, if_ok, single_array, single_object, array_kept, object_kept}
 use Rattle.utoipa_schema.proofs.SchemaMembers.{schema_values}

@@ -3,7 +3,7 @@ use Rattle.serde_json.specs.View.{view}
 use Rattle.utoipa_base.specs.Values.{schema_count}
 use Rattle.utoipa_base.proofs.RowLists.{passes_reads}
 use Rattle.utoipa_schema.specs.Docs.{object_doc}
-use Rattle.utoipa_schema.proofs.Readers.{passes_refusal}
+use Rattle.utoipa_base.proofs.Readers.{passes_refusal}
 use Rattle.utoipa_schema.proofs.SchemaCounts.{no_object_table, object_content_counts}
 use Rattle.utoipa_schema.proofs.SchemaMembers.{schema_values}
 use Rattle.utoipa_schema.proofs.read.read_object.Goals as goal

@@ -11,11 +11,11 @@ use Rattle.utoipa_base.proofs.ByKind.{write-flag}
 use Rattle.utoipa_base.proofs.Empties.{vacant_slice, vacant_entries}
 use Rattle.utoipa_base.specs.Fields.{put_field}
 use Rattle.utoipa_base.specs.Tables.{row}
-use Rattle.utoipa_base.specs.Views.{option_of, list_of_docs, map_of_docs}
+use Rattle.utoipa_base.specs.Views.{boxed, option_of, list_of_docs, map_of_docs}
 use Rattle.utoipa_schema.specs.Choice.{content_schema_doc}
 use Rattle.utoipa_base.proofs.ByRows.{table_written, rows-cons, rows-nil, put_field-none, put_field-empty}
 use Rattle.utoipa_base.proofs.Places.{write-ref, write-own}
-use Rattle.utoipa_schema.specs.Docs.{boxed, schema_doc, places_doc, array_items_doc, additional_properties_doc, one_of_doc, all_of_doc, any_of_doc, array_doc, object_doc}
+use Rattle.utoipa_schema.specs.Docs.{schema_doc, places_doc, array_items_doc, additional_properties_doc, one_of_doc, all_of_doc, any_of_doc, array_doc, object_doc}
 use Rattle.utoipa_schema.specs.Folds.{schema-Array, schema-Object, schema-OneOf, schema-AllOf, schema-AnyOf, items-False, items-RefOrSchema}
 use Rattle.utoipa_schema.specs.Parts.{combination_docs, combination_rows, combination_of_rows, combination_of_one_of, array_head_docs, array_head_rows, array_head_of_rows, head_of_array, array_annotation_docs, array_annotation_rows, array_annotation_of_rows, annotations_of_array, item_limit_and_representation_docs, item_limit_and_representation_rows, item_limit_and_representation_of_rows, item_limits_and_representation_of_array, object_head_docs, object_head_rows, object_head_of_rows, head_of_object, object_annotation_docs, object_annotation_rows, object_annotation_of_rows, annotations_of_object, number_limit_docs, number_limit_rows, number_limit_of_rows, number_limits_of_object, size_limit_and_content_docs, size_limit_and_content_rows, size_limit_and_content_of_rows, size_limits_and_content_of_object}
 use Rattle.utoipa_schema.specs.declared.types.Schema.{Schema}

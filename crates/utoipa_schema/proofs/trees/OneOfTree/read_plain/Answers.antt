@@ -1,6 +1,6 @@
 use Rattle.std.proofs.Common.{arith}
 use Rattle.serde_json.specs.View.{view}
-use Rattle.utoipa_schema.proofs.Readers.{reads_within}
+use Rattle.utoipa_base.proofs.Readers.{reads_within}
 use Rattle.utoipa_schema.proofs.SchemaMembers.{schema_values}
 use Rattle.utoipa_schema.proofs.trees.OneOfTree.read_plain.Goals as goal
 

@@ -1,7 +1,7 @@
 use Rattle.std.proofs.Common.{◌∙◌, ap, sym, string_cmp}
 use Rattle.std.specs.BTreeMap.{insert_entry}
-use Rattle.utoipa_media.proofs.Puts.{put_each-last}
-use Rattle.utoipa_media.proofs.fill.put_each.Goals as goal
+use Rattle.utoipa_base.proofs.Puts.{put_each-last}
+use Rattle.utoipa_base.proofs.fill.put_each.Goals as goal
 
 pub loop-name-preserved : goal.loop-name-preserved
 loop-name-preserved g c =

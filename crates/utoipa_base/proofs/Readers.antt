@@ -14,7 +14,7 @@ use Rattle.utoipa_base.specs.Reading.{read, is_null}
 use Rattle.utoipa_base.specs.Reads.{Reads}
 use Rattle.utoipa_base.specs.Tables.{row}
 use Rattle.utoipa_base.specs.Values.{values, values_at, members_values, schema_count}
-use Rattle.utoipa_base.specs.Views.{option_of}
+use Rattle.utoipa_base.specs.Views.{boxed, option_of}
 use Rattle.utoipa_base.specs.declared.fault.ReadFault.{ReadFault}
 use Rattle.utoipa_base.specs.declared.fault.ReadFault.TheVariants.{Memory, Fraction, Missing, Kind as no_kind, Word, Alternative, Text}
 use Rattle.utoipa_base.proofs.ByRows.{passes_on}
@@ -24,7 +24,6 @@ use Rattle.utoipa_base.proofs.ReadingLists.{ListSoFar}
 use Rattle.utoipa_base.proofs.ReadingMaps.{MapSoFar}
 use Rattle.utoipa_base.proofs.Tried.{fits_neither}
 use Rattle.utoipa_base.proofs.Values.{items_values-drop, array_values, members_values-cons, object_values}
-use Rattle.utoipa_schema.specs.Docs.{boxed}
 
 -- ---- refusals
 

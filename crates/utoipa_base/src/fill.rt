@@ -1,14 +1,13 @@
 //! Fields that are filled: with a value put on the heap, and with pairs put into a map.
 ghost use Rattle.std.specs.Prelude.{◌≡◌, IfOk, OnOk};
 ghost use Rattle.std.specs.Iterator.{IsFinite, Drains};
-ghost use Rattle.utoipa_media.specs.Builders.{Pairs, put_each};
-ghost use Rattle.utoipa_schema.specs.Builders.{IsBoxedIfAny};
+ghost use Rattle.utoipa_base.specs.Fill.{IsBoxedIfAny, Pairs, put_each};
 
 use std::alloc::{AllocError, Global};
 use std::collections::BTreeMap;
 
 /// A value put on the heap, where there is one. Fails where memory runs out, and then gives it up.
-pub(crate) fn boxed_if_any<T: Drop>(
+pub fn boxed_if_any<T: Drop>(
     alloc: Global,
     value: Option<T>,
 ) -> Result<Option<Box<T>>, AllocError>
@@ -22,7 +21,7 @@ pub(crate) fn boxed_if_any<T: Drop>(
 
 /// Puts each pair that an iterator gives into a map, in place of an earlier one of that name. The iterator has to end.
 /// Fails where memory runs out, and then some pairs were put.
-pub(crate) fn put_each<T: Drop, I: Iterator<Item = (String, T)> + Drop>(
+pub fn put_each<T: Drop, I: Iterator<Item = (String, T)> + Drop>(
     map: &mut BTreeMap<String, T>,
     pairs: I,
 ) -> Result<(), AllocError>
