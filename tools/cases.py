@@ -107,9 +107,9 @@ def words_of(text):
 
 
 # The types that are built and read by a table of their own. MutualTls serves a variant of SecurityScheme.
-SWEPT = """Ref Info Contact License ExternalDocs Server ServerVariable Tag Xml Example Link Object Array OneOf AllOf AnyOf
-    Discriminator ApiKeyValue Http OpenIdConnect MutualTls OAuth2 Scopes Implicit Password ClientCredentials
-    AuthorizationCode DeviceAuthorization""".split()
+SWEPT = """Ref Info Contact License ExternalDocs Server ServerVariable Tag Xml Example Content Encoding Header Link RequestBody
+    Response Parameter Object Array OneOf AllOf AnyOf Discriminator ApiKeyValue Http OpenIdConnect MutualTls OAuth2 Scopes Implicit
+    Password ClientCredentials AuthorizationCode DeviceAuthorization""".split()
 
 WITHOUT_EXTENSIONS = ("Ref", "Xml", "Scopes")
 
@@ -234,7 +234,7 @@ class Sweep:
     def add_empty(self, member, mark, kind, others):
         """What is empty is written, but at a defaulted member."""
         shape = kind.split(" ")[0]
-        empty = {"text": "", "flag": False, "list": [], "map": {}, "flows": {}}.get(shape)
+        empty = {"text": "", "flag": False, "list": [], "map": {}, "ordered": {}, "flows": {}}.get(shape)
         if empty is not None:
             tree = {**others, member: empty}
             self.is_read(tree, others if mark == "defaulted" else tree)

@@ -6,7 +6,11 @@ use utoipa_leaf::external_docs::ExternalDocs;
 use utoipa_leaf::info::{Contact, Info, License};
 use utoipa_leaf::server::{Server, ServerVariable};
 use utoipa_leaf::tag::Tag;
+use utoipa_media::content::Content;
+use utoipa_media::encoding::Encoding;
+use utoipa_media::header::Header;
 use utoipa_media::link::Link;
+use utoipa_operation_parts::{Parameter, RequestBody, Response, Responses};
 use utoipa_schema::{AllOf, AnyOf, Array, Object, OneOf, Schema};
 use utoipa_schema_parts::Discriminator;
 use utoipa_security::security::{
@@ -69,6 +73,48 @@ impl Extended for Example {
 }
 
 impl Extended for Link {
+    fn set_extensions(&mut self, extensions: Extensions) {
+        self.extensions = Some(extensions);
+    }
+}
+
+impl Extended for Content {
+    fn set_extensions(&mut self, extensions: Extensions) {
+        self.extensions = Some(extensions);
+    }
+}
+
+impl Extended for Encoding {
+    fn set_extensions(&mut self, extensions: Extensions) {
+        self.extensions = Some(extensions);
+    }
+}
+
+impl Extended for Header {
+    fn set_extensions(&mut self, extensions: Extensions) {
+        self.extensions = Some(extensions);
+    }
+}
+
+impl Extended for RequestBody {
+    fn set_extensions(&mut self, extensions: Extensions) {
+        self.extensions = Some(extensions);
+    }
+}
+
+impl Extended for Response {
+    fn set_extensions(&mut self, extensions: Extensions) {
+        self.extensions = Some(extensions);
+    }
+}
+
+impl Extended for Responses {
+    fn set_extensions(&mut self, extensions: Extensions) {
+        self.extensions = Some(extensions);
+    }
+}
+
+impl Extended for Parameter {
     fn set_extensions(&mut self, extensions: Extensions) {
         self.extensions = Some(extensions);
     }

@@ -11,7 +11,11 @@ use utoipa_leaf::external_docs::ExternalDocs;
 use utoipa_leaf::info::{Contact, Info, License};
 use utoipa_leaf::server::{Server, ServerVariable};
 use utoipa_leaf::tag::Tag;
+use utoipa_media::content::Content;
+use utoipa_media::encoding::Encoding;
+use utoipa_media::header::Header;
 use utoipa_media::link::Link;
+use utoipa_operation_parts::{Parameter, RequestBody, Response, Responses};
 use utoipa_schema::{AllOf, AnyOf, Array, Object, OneOf, Schema};
 use utoipa_schema_parts::Discriminator;
 use utoipa_security::security::{
@@ -57,7 +61,25 @@ fn of_leaves(
         "ServerVariable" => with_extensions::<ServerVariable>(alloc, tree, extensions),
         "Tag" => with_extensions::<Tag>(alloc, tree, extensions),
         "Example" => with_extensions::<Example>(alloc, tree, extensions),
+        _ => of_media(alloc, name, tree, extensions),
+    }
+}
+
+fn of_media(
+    alloc: Global,
+    name: &str,
+    tree: &Value,
+    extensions: Extensions,
+) -> Result<String, AllocError> {
+    match name {
+        "Content" => with_extensions::<Content>(alloc, tree, extensions),
+        "Encoding" => with_extensions::<Encoding>(alloc, tree, extensions),
+        "Header" => with_extensions::<Header>(alloc, tree, extensions),
         "Link" => with_extensions::<Link>(alloc, tree, extensions),
+        "RequestBody" => with_extensions::<RequestBody>(alloc, tree, extensions),
+        "Response" => with_extensions::<Response>(alloc, tree, extensions),
+        "Responses" => with_extensions::<Responses>(alloc, tree, extensions),
+        "Parameter" => with_extensions::<Parameter>(alloc, tree, extensions),
         _ => of_schemas(alloc, name, tree, extensions),
     }
 }

@@ -12,7 +12,11 @@ use utoipa_leaf::path::{HttpMethod, ParameterIn, ParameterStyle};
 use utoipa_leaf::server::{Server, ServerVariable};
 use utoipa_leaf::tag::Tag;
 use utoipa_leaf::version::OpenApiVersion;
+use utoipa_media::content::Content;
+use utoipa_media::encoding::Encoding;
+use utoipa_media::header::Header;
 use utoipa_media::link::Link;
+use utoipa_operation_parts::{Parameter, RequestBody, Response, Responses};
 use utoipa_schema::{AdditionalProperties, AllOf, AnyOf, Array, ArrayItems, Object, OneOf, Schema};
 use utoipa_schema_parts::{Discriminator, KnownFormat, SchemaFormat, SchemaType, TypeWord, Xml};
 use utoipa_security::security::{
@@ -72,7 +76,6 @@ fn of_containers(
         "RefOr<Value>" => answered::<RefOr<Value>>(alloc, question, tree),
         "RefOr<Vec<String>>" => answered::<RefOr<Vec<String>>>(alloc, question, tree),
         "RefOr<Example>" => answered::<RefOr<Example>>(alloc, question, tree),
-        "RefOr<Link>" => answered::<RefOr<Link>>(alloc, question, tree),
         "RefOr<Schema>" => answered::<RefOr<Schema>>(alloc, question, tree),
         "Vec<RefOr<Schema>>" => answered::<Vec<RefOr<Schema>>>(alloc, question, tree),
         "BTreeMap<String, RefOr<Schema>>" => {
@@ -98,11 +101,33 @@ fn of_leaves(
         "Tag" => answered::<Tag>(alloc, question, tree),
         "Xml" => answered::<Xml>(alloc, question, tree),
         "Example" => answered::<Example>(alloc, question, tree),
-        "Link" => answered::<Link>(alloc, question, tree),
         "OpenApiVersion" => answered::<OpenApiVersion>(alloc, question, tree),
         "HttpMethod" => answered::<HttpMethod>(alloc, question, tree),
         "ParameterIn" => answered::<ParameterIn>(alloc, question, tree),
         "ParameterStyle" => answered::<ParameterStyle>(alloc, question, tree),
+        _ => of_media(alloc, question, name, tree),
+    }
+}
+
+fn of_media(
+    alloc: Global,
+    question: Question,
+    name: &str,
+    tree: &Value,
+) -> Result<String, AllocError> {
+    match name {
+        "Content" => answered::<Content>(alloc, question, tree),
+        "Encoding" => answered::<Encoding>(alloc, question, tree),
+        "Header" => answered::<Header>(alloc, question, tree),
+        "Link" => answered::<Link>(alloc, question, tree),
+        "RequestBody" => answered::<RequestBody>(alloc, question, tree),
+        "Response" => answered::<Response>(alloc, question, tree),
+        "Responses" => answered::<Responses>(alloc, question, tree),
+        "Parameter" => answered::<Parameter>(alloc, question, tree),
+        "RefOr<Content>" => answered::<RefOr<Content>>(alloc, question, tree),
+        "RefOr<Header>" => answered::<RefOr<Header>>(alloc, question, tree),
+        "RefOr<Link>" => answered::<RefOr<Link>>(alloc, question, tree),
+        "RefOr<Response>" => answered::<RefOr<Response>>(alloc, question, tree),
         _ => of_schemas(alloc, question, name, tree),
     }
 }

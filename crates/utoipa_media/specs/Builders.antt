@@ -67,6 +67,14 @@ built_header b = out-Header b.header
 abbrev pub IsContentPlace : ContentFields → RefOr Content → Type 0
 IsContentPlace fields place = (c : Content) × (out-Content c ≡ fields) × (place ≡ places.T c)
 
+-- a content, where a reference could stand
+abbrev pub content_place : Content → RefOr Content
+content_place c = places.T c
+
+-- a reference, where a content could stand
+abbrev pub content_reference : Ref → RefOr Content
+content_reference r = places.Ref r
+
 -- a header, where a reference could stand
 abbrev pub header_place : Header → RefOr Header
 header_place h = places.T h

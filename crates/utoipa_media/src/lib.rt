@@ -2,8 +2,15 @@
 #![tactic(auto)]
 
 pub mod content;
+mod copy;
 pub mod encoding;
 pub mod header;
 pub mod link;
+mod print;
+mod read;
 mod rows;
+pub mod trees;
 mod types;
+mod write;
+
+pub use trees::{read_content_map, read_encoding_list, read_ref_or_header};

@@ -23,6 +23,8 @@ mod media;
 #[cfg(test)]
 mod numbers;
 #[cfg(test)]
+mod operation_parts;
+#[cfg(test)]
 mod ordered_maps;
 #[cfg(test)]
 mod printed;

@@ -1,10 +1,11 @@
 //! Contents, encodings, headers and links, as their constructors and builders make them.
 use crate::schema_parts::place_of;
-use crate::shared::{is_flag, is_number, is_text, is_written, text};
+use crate::shared::{extension, is_flag, is_number, is_text, is_written, text};
 use serde_json::Value;
 use std::process::Abort;
-use utoipa_base::{Ref, RefOr};
+use utoipa_base::{Deprecated, Ref, RefOr};
 use utoipa_leaf::example::Example;
+use utoipa_leaf::path::ParameterStyle;
 use utoipa_media::content::Content;
 use utoipa_media::encoding::Encoding;
 use utoipa_media::header::Header;
@@ -128,4 +129,38 @@ fn a_link_is_written_with_what_was_set_alone(rt: HostRuntime) {
     let link = built.expect(&rt, "memory for a parameter").build();
     let expected = r#"{"operationId":"getUserAddress","parameters":{"userId":"$request.path.id"}}"#;
     is_written(&rt, link, expected);
+}
+
+#[test]
+fn a_header_is_written_as_it_was_built(rt: HostRuntime) {
+    let example = Value::try_from_str(rt.alloc(), "example-value");
+    let builder = Header::builder(rt.alloc()).description(Some(text(&rt, "custom header")));
+    let builder = builder.deprecated(Some(Deprecated::True));
+    let builder = builder.style(Some(ParameterStyle::Simple)).explode(Some(true));
+    let builder = builder.example(Some(example.expect(&rt, "memory for a text")));
+    let expected = r#"{"deprecated":true,"description":"custom header","example":"example-value","explode":true,"schema":{"type":"string"},"style":"simple"}"#;
+    is_written(&rt, builder.build(), expected);
+}
+
+#[test]
+fn a_content_is_written_as_it_was_built(rt: HostRuntime) {
+    let builder = Content::builder(rt.alloc()).schema(Some(place_of(&rt, TypeWord::String)));
+    let builder = builder.item_schema(Some(place_of(&rt, TypeWord::Integer)));
+    let builder = builder.description(Some(text(&rt, "d"))).example(Some(Value::from(1u64)));
+    let builder = builder.extensions(extension(&rt));
+    let builder = builder.item_encoding(rt.alloc(), Some(encoding_of(&rt, "a/a")));
+    let content = builder.expect(&rt, "memory for an encoding").build();
+    let expected = r#"{"description":"d","example":1,"itemEncoding":{"contentType":"a/a"},"itemSchema":{"type":"integer"},"schema":{"type":"string"},"x-a":1}"#;
+    is_written(&rt, content, expected);
+}
+
+#[test]
+fn an_encoding_is_written_as_it_was_built(rt: HostRuntime) {
+    let builder = Encoding::builder(rt.alloc()).style(Some(ParameterStyle::Form));
+    let builder = builder.explode(Some(false)).allow_reserved(Some(true));
+    let builder = builder.extensions(extension(&rt));
+    let builder = builder.encoding(text(&rt, "p"), encoding_of(&rt, "a/a"));
+    let encoding = builder.expect(&rt, "memory for an encoding").build();
+    let expected = r#"{"allowReserved":true,"encoding":{"p":{"contentType":"a/a"}},"explode":false,"style":"form","x-a":1}"#;
+    is_written(&rt, encoding, expected);
 }

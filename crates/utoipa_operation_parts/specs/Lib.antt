@@ -1,0 +1,5 @@
+pub mod JsonSchema
+pub mod RequestBody
+pub mod Response
+pub mod Responses
+pub mod Parameter

@@ -1,0 +1,13 @@
+//! What an operation is sent and what it answers: parameters, request bodies and responses.
+#![tactic(auto)]
+
+mod json_schema;
+pub mod parameter;
+pub mod request_body;
+pub mod response;
+
+pub use parameter::{Parameter, ParameterBuilder};
+pub use request_body::{RequestBody, RequestBodyBuilder, RequestBodyExt};
+pub use response::{
+    Response, ResponseBuilder, ResponseExt, Responses, ResponsesBuilder,
+};
