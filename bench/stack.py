@@ -1,11 +1,11 @@
 #!/usr/bin/env python3
-"""Finds the least stack in which schemas as deep as a text can be are read, copied, written and dropped.
+"""Finds the least stack in which schemas, encodings and headers as deep as a text can be are read, copied, written and dropped.
 
 usage: bench/stack.py      after `rt run < stdin` in crates/utoipa_cases
 
-A text nests 127 objects and lists. Each input nests schemas so deep in one of the nine members that hold schemas. The
-command `utoipa_doc schema` reads, writes and drops it; the case `read Schema` of `utoipa_cases` copies it too. Each figure is
-in KiB, to the next 4; the default stack has 8192.
+A text nests 127 objects and lists. Each input nests schemas so deep in one of the nine members that hold schemas, encodings in one of
+the three that hold encodings, or headers in encodings in contents of headers. The command `utoipa_doc schema` reads, writes and drops a
+schema; the cases `read TYPE` of `utoipa_cases` copy too. Each figure is in KiB, to the next 4; the default stack has 8192.
 """
 import os
 import resource
@@ -27,6 +27,14 @@ MEMBERS = (
     ("oneOf", '{"oneOf":[', "]}", 63),
     ("allOf", '{"allOf":[', "]}", 63),
     ("anyOf", '{"anyOf":[', "]}", 63),
+)
+
+# The same of values that the command does not read, each with its type.
+HELD = (
+    ("Encoding", "itemEncoding", '{"itemEncoding":', "}", 126),
+    ("Encoding", "encoding", '{"encoding":{"a":', "}}", 63),
+    ("Encoding", "prefixEncoding", '{"prefixEncoding":[', "]}", 63),
+    ("Header", "content", '{"content":{"a":{"encoding":{"b":{"headers":{"c":', "}}}}}}", 21),
 )
 
 
@@ -56,6 +64,12 @@ def least_stack(is_enough):
     return high
 
 
+def case_stack(type, text):
+    """The least stack in which the program of cases reads, copies, writes and drops a value of the type."""
+    asked = b"read " + type.encode() + b"\t" + text
+    return least_stack(lambda kib: answers([CASES], asked, text, kib))
+
+
 def main():
     if not os.path.isfile(CASES):
         sys.exit("no program of cases: run `rt run < stdin` in crates/utoipa_cases first")
@@ -64,8 +78,10 @@ def main():
     for name, begin, end, levels in MEMBERS:
         text = (begin * levels + "{}" + end * levels + "\n").encode()
         command = least_stack(lambda kib: answers([COMMAND, "schema"], text, text, kib))
-        case = least_stack(lambda kib: answers([CASES], b"read Schema\t" + text, text, kib))
-        print("| `%s` | %d | %d | %d |" % (name, levels, command, case), flush=True)
+        print("| `%s` | %d | %d | %d |" % (name, levels, command, case_stack("Schema", text)), flush=True)
+    for type, name, begin, end, levels in HELD:
+        text = (begin * levels + "{}" + end * levels + "\n").encode()
+        print("| %s, `%s` | %d | | %d |" % (type, name, levels, case_stack(type, text)), flush=True)
 
 
 if __name__ == "__main__":

@@ -2,6 +2,8 @@
 use Rattle.std.specs.Prelude.{◌≡◌, [], None, option_map, String, string_bytes}
 use Rattle.std.specs.BTreeMap.{BTreeMap}
 use Rattle.std.specs.declared.alloc.Global.{Global}
+use Rattle.core.specs.declared.hash.build.BuildHasherDefault.{BuildHasherDefault}
+use Rattle.core.specs.declared.hash.fold.FoldHasher.{FoldHasher}
 use Rattle.indexmap.specs.IndexMap.{IndexMap}
 use Rattle.utoipa_base.specs.Docs.{Doc, table_doc, no_docs, doc}
 use Rattle.utoipa_base.specs.Extensions.{extensions_view}
@@ -19,11 +21,10 @@ use Rattle.utoipa_media.specs.declared.link.Link.{Link}
 use Rattle.utoipa_media.specs.declared.types.Content.{Content}
 use Rattle.utoipa_operation_parts.specs.declared.response.Response.{Response}
 use Rattle.utoipa_operation_parts.specs.declared.response.ResponseBuilder.{ResponseBuilder}
-use Rattle.std.specs.declared.collections.hash_map.RandomState.{RandomState}
 
 -- contents and references to such by their media types, in the order in which they were put
 abbrev pub OrderedContents : Type 0
-OrderedContents = IndexMap (String Global) (RefOr Content) RandomState
+OrderedContents = IndexMap (String Global) (RefOr Content) (BuildHasherDefault FoldHasher)
 
 -- links and references to such, by their names
 abbrev pub Links : Type 0
