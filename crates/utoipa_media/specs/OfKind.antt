@@ -1,9 +1,9 @@
 -- Each content, encoding and header is a document of its kind.
-use Rattle.std.proofs.Common.{◌∙◌, ap, sym, subst, option_map, Box, Global}
+use Rattle.std.proofs.Common.{◌∙◌, ap, sym, subst, option_map}
 use Rattle.utoipa_base.specs.Docs.{Doc, flag_doc}
 use Rattle.utoipa_base.specs.Extensions.{extensions_view}
 use Rattle.utoipa_base.specs.Flags.{deprecated_doc}
-use Rattle.utoipa_base.specs.Kinds.{Kind, text, flag, any, word_of, parameter_style, named, ref_or, schema, example_object, media_type_object, encoding_object, header_object}
+use Rattle.utoipa_base.specs.Kinds.{text, flag, any, word_of, parameter_style, named, ref_or, schema, example_object, media_type_object, encoding_object, header_object}
 use Rattle.utoipa_base.specs.OfKind.{text_of_kind, flag_of_kind, deprecated_of_kind, tree_of_kind, option_of_kind, list_of_kind, map_of_kind, ref_or_of_kind, boxed_of_kind, extends_of_kind, no_rows, next_row, table_of_kind}
 use Rattle.utoipa_base.specs.Refs.{ref_or_doc}
 use Rattle.utoipa_base.specs.Shape.{IsOf, value_of}

@@ -49,4 +49,7 @@ macro_rules! header_rows {
     };
 }
 
-pub(crate) use {content_rows, encoding_head_rows, encoding_style_rows, header_rows};
+pub(crate) use content_rows;
+pub(crate) use encoding_head_rows;
+pub(crate) use encoding_style_rows;
+pub(crate) use header_rows;
