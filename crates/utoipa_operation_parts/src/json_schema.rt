@@ -11,7 +11,7 @@ use utoipa_media::content::Content;
 pub(crate) fn json_media_type(alloc: Global) -> Result<String, AllocError>
     ensures { IfOk result (λ name. string_bytes name ≡ codes "application/json") }
 {
-    String::try_from_str(alloc, "application/json")
+    String::from_str(alloc, "application/json")
 }
 
 /// A content of the schema of that name in the components, by a reference. Fails where memory runs out.
