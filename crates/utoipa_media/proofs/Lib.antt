@@ -1,1 +1,4 @@
-pub mod PrintWeights
+pub mod AbsentMembers
+pub mod Counts
+pub mod PartsRead
+pub mod Weights

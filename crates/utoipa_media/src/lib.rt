@@ -1,6 +1,7 @@
 //! Contents of media types, their encodings, headers and links, under the modules of the original crate.
 #![tactic(auto)]
 
+mod assemble;
 pub mod content;
 mod copy;
 pub mod encoding;

@@ -2,8 +2,8 @@
 use Rattle.std.specs.Prelude.{◌≡◌, [], None, option_map, String, string_bytes}
 use Rattle.std.specs.BTreeMap.{BTreeMap}
 use Rattle.std.specs.declared.alloc.Global.{Global}
-use Rattle.core.specs.declared.hash.build.BuildHasherDefault.{BuildHasherDefault}
-use Rattle.core.specs.declared.hash.fold.FoldHasher.{FoldHasher}
+use Rattle.std.specs.declared.hash.BuildHasherDefault.{BuildHasherDefault}
+use Rattle.std.specs.declared.hash.FoldHasher.{FoldHasher}
 use Rattle.indexmap.specs.IndexMap.{IndexMap}
 use Rattle.utoipa_base.specs.Docs.{Doc, table_doc, no_docs, doc}
 use Rattle.utoipa_base.specs.Extensions.{extensions_view}

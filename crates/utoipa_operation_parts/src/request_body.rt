@@ -224,6 +224,8 @@ impl From<RequestBodyBuilder> for RequestBody {
 
 /// Says that a request body is JSON of a schema of the components.
 pub trait RequestBodyExt: Drop {
+    ghost use Rattle.utoipa_operation_parts.specs.declared.request_body.RequestBody.{RequestBody};
+
     // The body, or the one that was built so far.
     ghost body: { Self → RequestBody };
 

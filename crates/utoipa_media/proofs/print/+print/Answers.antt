@@ -20,7 +20,7 @@ use Rattle.utoipa_media.specs.Folds.{encoding_is}
 use Rattle.utoipa_media.specs.declared.types.Content.{Content}
 use Rattle.utoipa_media.specs.declared.types.Encoding.{Encoding, out-Encoding}
 use Rattle.utoipa_media.specs.declared.types.Header.{Header}
-use Rattle.utoipa_media.proofs.PrintWeights.{lighter_content, lighter_encoding, lighter_header}
+use Rattle.utoipa_media.proofs.Weights.{held_by_content, held_by_encoding, lighter_header}
 use Rattle.utoipa_media.proofs.print.+print.Goals as goal
 
 pub print_ref_or_content-print_content-requires : goal.print_ref_or_content-print_content-requires
@@ -156,25 +156,25 @@ print_item_encoding-returns-in-None t c =
     (optional_absent (codes "itemEncoding") (named encoding_object) _ _)
 
 pub print_content-print_encodings_by_name-requires : goal.print_content-print_encodings_by_name-requires
-print_content-print_encodings_by_name-requires t c = (omega (arith, (lighter_content c.args.content.now).0), tt)
+print_content-print_encodings_by_name-requires t c = (omega (arith, (held_by_content c.args.content.now).0), tt)
 
 pub print_content-print_first_encodings-requires : goal.print_content-print_first_encodings-requires
-print_content-print_first_encodings-requires t c = (omega (arith, (lighter_content c.args.content.now).1), tt)
+print_content-print_first_encodings-requires t c = (omega (arith, (held_by_content c.args.content.now).1), tt)
 
 pub print_content-print_item_encoding-requires : goal.print_content-print_item_encoding-requires
-print_content-print_item_encoding-requires t c = (omega (arith, (lighter_content c.args.content.now).2), tt)
+print_content-print_item_encoding-requires t c = (omega (arith, (held_by_content c.args.content.now).2), tt)
 
 pub print_encoding-print_headers-requires : goal.print_encoding-print_headers-requires
-print_encoding-print_headers-requires t c = (omega (arith, (lighter_encoding c.args.encoding.now).0), tt)
+print_encoding-print_headers-requires t c = (omega (arith, (held_by_encoding c.args.encoding.now).0), tt)
 
 pub print_encoding-print_encodings_by_name-requires : goal.print_encoding-print_encodings_by_name-requires
-print_encoding-print_encodings_by_name-requires t c = (omega (arith, (lighter_encoding c.args.encoding.now).1), tt)
+print_encoding-print_encodings_by_name-requires t c = (omega (arith, (held_by_encoding c.args.encoding.now).1), tt)
 
 pub print_encoding-print_first_encodings-requires : goal.print_encoding-print_first_encodings-requires
-print_encoding-print_first_encodings-requires t c = (omega (arith, (lighter_encoding c.args.encoding.now).2), tt)
+print_encoding-print_first_encodings-requires t c = (omega (arith, (held_by_encoding c.args.encoding.now).2), tt)
 
 pub print_encoding-print_item_encoding-requires : goal.print_encoding-print_item_encoding-requires
-print_encoding-print_item_encoding-requires t c = (omega (arith, (lighter_encoding c.args.encoding.now).3), tt)
+print_encoding-print_item_encoding-requires t c = (omega (arith, (held_by_encoding c.args.encoding.now).3), tt)
 
 pub print_header-print_contents-requires : goal.print_header-print_contents-requires
 print_header-print_contents-requires t c = (omega (arith, lighter_header c.args.header.now), tt)

@@ -1,0 +1,136 @@
+-- The parts of a table, read one after the other with one counter: what they come to together.
+use Rattle.std.proofs.Common.{◌≡◌, ◌∙◌, ◌+◌, ◌≤◌, ◌++◌, ℕ, List, [], ◌∷◌, true, Option, Some, option_map, refl, sym, ap, is_some, arith, codes, Result, Ok, Err, Box, Global}
+use Rattle.std.specs.Result.{IsErrAnd}
+use Rattle.serde_json.specs.Data.{Data, Members}
+use Rattle.serde_json.specs.Find.{get, as_object}
+use Rattle.utoipa_base.specs.Docs.{Doc, Docs, no_docs, doc, list_doc, table_doc}
+use Rattle.utoipa_base.specs.Extensions.{extensions_at}
+use Rattle.utoipa_base.specs.Fields.{field, fields}
+use Rattle.utoipa_base.specs.Kinds.{ObjectType, Row, named, ref_or, list_of, map_of, media_type_object, encoding_object, header_object, optional, defaulted}
+use Rattle.utoipa_base.specs.Reading.{read}
+use Rattle.utoipa_base.specs.Reads.{Reads}
+use Rattle.utoipa_base.specs.Rows.{part, rows_values}
+use Rattle.utoipa_base.specs.Tables.{row, table, has_extensions}
+use Rattle.utoipa_base.specs.Values.{values, values_at, values_of, schema_count, docs_schema_count}
+use Rattle.utoipa_base.specs.Views.{boxed, option_of, list_of_docs, map_of_docs}
+use Rattle.utoipa_base.specs.declared.fault.ReadFault.{ReadFault}
+use Rattle.utoipa_media.specs.Builders.{Encodings, ItemEncodings}
+use Rattle.utoipa_media.specs.Docs.{encoding_doc}
+use Rattle.utoipa_media.specs.Parts.{encoding_head_rows, encoding_style_rows, encodings_rows, encodings_docs}
+use Rattle.utoipa_media.specs.declared.types.Encoding.{Encoding}
+use Rattle.utoipa_base.proofs.ByRows.{fields-nil, fields-fit, table_refused}
+use Rattle.utoipa_base.proofs.Places.{docs_schema_count-none, docs_schema_count-cons, schema_count-list}
+use Rattle.utoipa_base.proofs.RowLists.{list_as_table, passes_reads, rows_fewer, rows_fit}
+use Rattle.utoipa_base.proofs.TableParts.{docs_append, fields_of_part, no_fields_of_part, join-fit, join-first}
+
+-- the rows were read as the documents, and the counter has risen from `old` to `new`
+abbrev pub PartRead : List Row → Data → Docs → ℕ → ℕ → Type 0
+PartRead rows d ds old new = Reads {A = Docs} (part rows d) list_doc (Ok ds) old new (rows_values rows d)
+
+-- ---- sums
+
+values_join : (rs ss : List Row) (d : Data) → rows_values (rs ++ ss) d ≡ rows_values rs d + rows_values ss d
+values_join [] ss d = omega arith
+values_join (r ∷ rs) ss d = omega (arith, values_join rs ss d)
+
+counts_join : (xs ys : Docs) → docs_schema_count (docs_append xs ys) ≡ docs_schema_count xs + docs_schema_count ys
+counts_join no_docs ys = omega (arith, docs_schema_count-none)
+counts_join (doc d xs) ys = omega (arith, docs_schema_count-cons d (docs_append xs ys), docs_schema_count-cons d xs, counts_join xs ys)
+
+list_counts_join : (xs ys : Docs) → schema_count (list_doc (docs_append xs ys)) ≡ schema_count (list_doc xs) + schema_count (list_doc ys)
+list_counts_join xs ys = omega (arith, schema_count-list (docs_append xs ys), schema_count-list xs, schema_count-list ys, counts_join xs ys)
+
+parts_fit : (rs ss : List Row) (d : Data) (xs ys : Docs) → part rs d ≡ Some (list_doc xs) → part ss d ≡ Some (list_doc ys) → part (rs ++ ss) d ≡ Some (list_doc (docs_append xs ys))
+parts_fit rs ss d xs ys first second = ap (option_map list_doc) (join-fit rs ss d xs ys (fields_of_part rs d xs first) (fields_of_part ss d ys second))
+
+-- ---- parts
+
+-- no row
+pub no_part : (d : Data) (n : ℕ) → PartRead [] d no_docs n n
+no_part d n =
+    record {
+      ok = ap (option_map list_doc) (fields-nil d);
+      err = tt;
+      grows = omega arith;
+      at_most = omega arith;
+      at_least = λ below. omega (arith, schema_count-list no_docs, docs_schema_count-none);
+    }
+
+-- a row, and those after it
+pub row_and_part : {A : Type 0} (f : A → Doc) (r : Row) (rs : List Row) (d : Data) (v : A) (ds : Docs) (old mid new : ℕ) → Reads {A = A} (field r d) f (Ok v) old mid (values_of (get r.name d)) → PartRead rs d ds mid new
+    → PartRead (r ∷ rs) d (doc (f v) ds) old new
+row_and_part f r rs d v ds old mid new one rest =
+    record {
+      ok = ap (option_map list_doc) (fields-fit r rs d (f v) ds one.ok (fields_of_part rs d ds rest.ok));
+      err = tt;
+      grows = omega (arith, one.grows, rest.grows);
+      at_most = omega (arith, one.at_most, rest.at_most);
+      at_least = λ below. omega (arith, one.at_least (omega (arith, rest.grows, below)), rest.at_least below, schema_count-list (doc (f v) ds), schema_count-list ds, docs_schema_count-cons (f v) ds);
+    }
+
+-- rows that were read after those that follow them
+pub part_before : (rs ss : List Row) (d : Data) (xs ys : Docs) (old mid new : ℕ) → PartRead ss d ys old mid → PartRead rs d xs mid new → PartRead (rs ++ ss) d (docs_append xs ys) old new
+part_before rs ss d xs ys old mid new one two =
+    record {
+      ok = parts_fit rs ss d xs ys two.ok one.ok;
+      err = tt;
+      grows = omega (arith, one.grows, two.grows);
+      at_most = omega (arith, one.at_most, two.at_most, values_join rs ss d);
+      at_least = λ below. omega (arith, one.at_least (omega (arith, two.grows, below)), two.at_least below, list_counts_join xs ys);
+    }
+
+-- fields that were read as one value are the documents of its parts
+pub part_as : {A : Type 0} (f : A → Docs) (rs : List Row) (d : Data) (v : A) (old new : ℕ) → Reads {A = A} (part rs d) (λ w. list_doc (f w)) (Ok v) old new (rows_values rs d) → PartRead rs d (f v) old new
+part_as f rs d v old new one = record { ok = one.ok; err = tt; grows = one.grows; at_most = one.at_most; at_least = one.at_least }
+
+-- ---- tables
+
+-- parts of a table have together no more values than their object
+pub parts_fewer : (n : ObjectType) (rs ss : List Row) (d : Data) → rs ++ ss ≡ table n → rows_values rs d + rows_values ss d ≤ values d
+parts_fewer n rs ss d is = omega (arith, rows_fewer n (rs ++ ss) d is, values_join rs ss d)
+
+-- a table whose rows were read
+pub table_read : (n : ObjectType) (rs : List Row) (d : Data) (ds : Docs) (e : Option Members) (old new : ℕ) → rs ≡ table n → has_extensions n ≡ true → is_some (as_object d) ≡ true → e ≡ extensions_at true d → PartRead rs d ds old new
+    → Reads {A = Docs} (read (named n) d) (λ xs. table_doc n xs e) (Ok ds) old new (values d)
+table_read n rs d ds e old new is extended object extensions one =
+    record {
+      ok = rows_fit true n rs d ds e is extended object (fields_of_part rs d ds one.ok) extensions;
+      err = tt;
+      grows = one.grows;
+      at_most = omega (arith, one.at_most, rows_fewer n rs d is);
+      at_least = λ below. omega (arith, list_as_table n ds e old new one.at_least below);
+    }
+
+-- a part that is refused after the rows that follow it were read
+pub part_refused : {A T : Type 0} (f : A → Doc) (g : T → Doc) (n : ObjectType) (rs ss : List Row) (d : Data) (ys : Docs) (r : Result T ReadFault) (e : ReadFault) (old mid new : ℕ) → rs ++ ss ≡ table n → PartRead ss d ys old mid
+    → IsErrAnd r (λ x. x ≡ e) → Reads {A = A} (part rs d) f (Err e) mid new (rows_values rs d) → Reads (read (named n) d) g r old new (values d)
+part_refused f g n rs ss d ys r e old mid new is one passed refusal =
+    passes_reads f g r e (part rs d) (read (named n) d) old mid new (rows_values rs d) (values d) passed refusal
+    (λ h. table_refused n d (ap (λ x. fields x d) (sym is) ∙ join-first rs ss d (no_fields_of_part rs d h)))
+    one.grows
+    (omega (arith, one.at_most, parts_fewer n rs ss d is))
+
+-- ---- the rows of members that hold contents, encodings or headers
+
+abbrev pub headers_row : Row
+headers_row = row (codes "headers") defaulted (map_of (ref_or (named header_object)))
+
+abbrev pub contents_row : Row
+contents_row = row (codes "content") defaulted (map_of (ref_or (named media_type_object)))
+
+-- the parts of an encoding have together no more values than it
+pub encoding_parts_fewer : (d : Data) → rows_values encoding_head_rows d + (values_at (codes "headers") d + (rows_values encoding_style_rows d + rows_values encodings_rows d)) ≤ values d
+encoding_parts_fewer d =
+    let all : rows_values encoding_head_rows d + (values_at (codes "headers") d + rows_values (encoding_style_rows ++ encodings_rows) d) ≤ values d = parts_fewer encoding_object encoding_head_rows (headers_row ∷ (encoding_style_rows ++ encodings_rows)) d refl in
+    omega (arith, all, values_join encoding_style_rows encodings_rows d)
+
+-- the members that hold encodings
+pub encodings_read : (d : Data) (by_name : Encodings) (first : ItemEncodings) (item : Option (Box Encoding Global)) (old mid later new : ℕ)
+    → Reads {A = Encodings} (field (row (codes "encoding") defaulted (map_of (named encoding_object))) d) (map_of_docs encoding_doc) (Ok by_name) old mid (values_at (codes "encoding") d)
+    → Reads {A = ItemEncodings} (field (row (codes "prefixEncoding") defaulted (list_of (named encoding_object))) d) (list_of_docs encoding_doc) (Ok first) mid later (values_at (codes "prefixEncoding") d)
+    → Reads {A = Option (Box Encoding Global)} (field (row (codes "itemEncoding") optional (named encoding_object)) d) (option_of (boxed encoding_doc)) (Ok item) later new (values_at (codes "itemEncoding") d)
+    → PartRead encodings_rows d (encodings_docs by_name first item) old new
+encodings_read d by_name first item old mid later new one two three =
+    row_and_part (map_of_docs encoding_doc) _ _ d by_name _ old mid new one
+    (row_and_part (list_of_docs encoding_doc) _ _ d first _ mid later new two
+    (row_and_part (option_of (boxed encoding_doc)) _ [] d item no_docs later new new three (no_part d new)))
