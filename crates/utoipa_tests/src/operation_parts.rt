@@ -1,6 +1,6 @@
 //! Request bodies, responses and parameters, as their constructors and builders make them.
 use crate::schema_parts::place_of;
-use crate::shared::{extension, is_flag, is_number, is_text, is_tree, is_written, is_written_first, read, text};
+use crate::shared::{extension, is_number, is_text, is_written, is_written_first, read, text};
 use serde_json::Value;
 use std::collections::BTreeMap;
 use std::process::Abort;
@@ -10,7 +10,7 @@ use utoipa_media::content::Content;
 use utoipa_media::header::Header;
 use utoipa_media::link::Link;
 use utoipa_operation_parts::{
-    Parameter, RequestBody, RequestBodyExt, Response, ResponseBuilder, ResponseExt, Responses,
+    Parameter, RequestBody, RequestBodyExt, Response, ResponseExt, Responses,
 };
 use utoipa_schema_parts::TypeWord;
 
