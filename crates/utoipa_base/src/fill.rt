@@ -7,10 +7,7 @@ use std::alloc::{AllocError, Global};
 use std::collections::BTreeMap;
 
 /// A value put on the heap, where there is one. Fails where memory runs out, and then gives it up.
-pub fn boxed_if_any<T: Drop>(
-    alloc: Global,
-    value: Option<T>,
-) -> Result<Option<Box<T>>, AllocError>
+pub fn boxed_if_any<T: Drop>(alloc: Global, value: Option<T>) -> Result<Option<Box<T>>, AllocError>
     ensures { IfOk result (λ boxed. IsBoxedIfAny value boxed) }
 {
     match value {

@@ -8,6 +8,4 @@ pub mod response;
 
 pub use parameter::{Parameter, ParameterBuilder};
 pub use request_body::{RequestBody, RequestBodyBuilder, RequestBodyExt};
-pub use response::{
-    Response, ResponseBuilder, ResponseExt, Responses, ResponsesBuilder,
-};
+pub use response::{Response, ResponseBuilder, ResponseExt, Responses, ResponsesBuilder};

@@ -158,7 +158,11 @@ impl RequestBodyBuilder {
             × (contents.entries ≡ insert_entry string_cmp (built_request_body self).content.entries media_type (content_place content))
             × (built_request_body b ≡ record (built_request_body self) { content = contents })) }
     {
-        drop(self.request_body.content.insert(media_type, RefOr::T(content))?);
+        drop(
+            self.request_body
+                .content
+                .insert(media_type, RefOr::T(content))?,
+        );
         Ok(self)
     }
 
@@ -174,7 +178,11 @@ impl RequestBodyBuilder {
             × (contents.entries ≡ insert_entry string_cmp (built_request_body self).content.entries media_type (content_reference reference))
             × (built_request_body b ≡ record (built_request_body self) { content = contents })) }
     {
-        drop(self.request_body.content.insert(media_type, RefOr::Ref(reference))?);
+        drop(
+            self.request_body
+                .content
+                .insert(media_type, RefOr::Ref(reference))?,
+        );
         Ok(self)
     }
 

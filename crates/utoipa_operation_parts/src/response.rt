@@ -206,7 +206,11 @@ impl ResponseBuilder {
             × (contents.entries ≡ insert_in_order string_eq (built_response self).content.entries media_type (content_reference reference))
             × (built_response b ≡ record (built_response self) { content = contents })) }
     {
-        drop(self.response.content.insert(media_type, RefOr::Ref(reference))?);
+        drop(
+            self.response
+                .content
+                .insert(media_type, RefOr::Ref(reference))?,
+        );
         Ok(self)
     }
 
@@ -310,11 +314,7 @@ pub trait ResponseExt: Drop {
 impl ResponseExt for Response {
     ghost response = { λ response. response };
 
-    fn json_schema_ref(
-        mut self,
-        alloc: Global,
-        schema_name: &str,
-    ) -> Result<Response, AllocError> {
+    fn json_schema_ref(mut self, alloc: Global, schema_name: &str) -> Result<Response, AllocError> {
         let media_type = json_media_type(alloc)?;
         let content = json_schema_content(alloc, schema_name)?;
         drop(self.content.insert(media_type, RefOr::T(content))?);

@@ -136,9 +136,12 @@ fn a_header_is_written_as_it_was_built(rt: HostRuntime) {
     let example = Value::try_from_str(rt.alloc(), "example-value");
     let builder = Header::builder(rt.alloc()).description(Some(text(&rt, "custom header")));
     let builder = builder.deprecated(Some(Deprecated::True));
-    let builder = builder.style(Some(ParameterStyle::Simple)).explode(Some(true));
+    let builder = builder
+        .style(Some(ParameterStyle::Simple))
+        .explode(Some(true));
     let builder = builder.example(Some(example.expect(&rt, "memory for a text")));
-    let expected = r#"{"deprecated":true,"description":"custom header","example":"example-value","explode":true,"schema":{"type":"string"},"style":"simple"}"#;
+    let expected =
+        r#"{"deprecated":true,"description":"custom header","example":"example-value","explode":true,"schema":{"type":"string"},"style":"simple"}"#;
     is_written(&rt, builder.build(), expected);
 }
 
@@ -146,11 +149,14 @@ fn a_header_is_written_as_it_was_built(rt: HostRuntime) {
 fn a_content_is_written_as_it_was_built(rt: HostRuntime) {
     let builder = Content::builder(rt.alloc()).schema(Some(place_of(&rt, TypeWord::String)));
     let builder = builder.item_schema(Some(place_of(&rt, TypeWord::Integer)));
-    let builder = builder.description(Some(text(&rt, "d"))).example(Some(Value::from(1u64)));
+    let builder = builder
+        .description(Some(text(&rt, "d")))
+        .example(Some(Value::from(1u64)));
     let builder = builder.extensions(extension(&rt));
     let builder = builder.item_encoding(rt.alloc(), Some(encoding_of(&rt, "a/a")));
     let content = builder.expect(&rt, "memory for an encoding").build();
-    let expected = r#"{"description":"d","example":1,"itemEncoding":{"contentType":"a/a"},"itemSchema":{"type":"integer"},"schema":{"type":"string"},"x-a":1}"#;
+    let expected =
+        r#"{"description":"d","example":1,"itemEncoding":{"contentType":"a/a"},"itemSchema":{"type":"integer"},"schema":{"type":"string"},"x-a":1}"#;
     is_written(&rt, content, expected);
 }
 
@@ -161,6 +167,7 @@ fn an_encoding_is_written_as_it_was_built(rt: HostRuntime) {
     let builder = builder.extensions(extension(&rt));
     let builder = builder.encoding(text(&rt, "p"), encoding_of(&rt, "a/a"));
     let encoding = builder.expect(&rt, "memory for an encoding").build();
-    let expected = r#"{"allowReserved":true,"encoding":{"p":{"contentType":"a/a"}},"explode":false,"style":"form","x-a":1}"#;
+    let expected =
+        r#"{"allowReserved":true,"encoding":{"p":{"contentType":"a/a"}},"explode":false,"style":"form","x-a":1}"#;
     is_written(&rt, encoding, expected);
 }

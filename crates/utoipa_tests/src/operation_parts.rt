@@ -32,21 +32,28 @@ fn a_new_body_has_no_content(rt: HostRuntime) {
 #[test]
 fn a_body_holds_contents_and_references(rt: HostRuntime) {
     let builder = RequestBody::builder(rt.alloc()).description(Some(text(&rt, "d")));
-    let builder = builder.required(Some(Required::True)).extensions(extension(&rt));
+    let builder = builder
+        .required(Some(Required::True))
+        .extensions(extension(&rt));
     let builder = builder.content(text(&rt, "a/a"), content_of(&rt, TypeWord::Integer));
     let builder = builder.expect(&rt, "memory for a content");
     let builder = builder.content(text(&rt, "a/a"), content_of(&rt, TypeWord::String));
     let builder = builder.expect(&rt, "memory for a content");
     let builder = builder.content_ref(text(&rt, "b/b"), reference(&rt, "#/b"));
     let body = builder.expect(&rt, "memory for a reference").build();
-    let expected = r##"{"content":{"a/a":{"schema":{"type":"string"}},"b/b":{"$ref":"#/b"}},"description":"d","required":true,"x-a":1}"##;
+    let expected =
+        r##"{"content":{"a/a":{"schema":{"type":"string"}},"b/b":{"$ref":"#/b"}},"description":"d","required":true,"x-a":1}"##;
     is_written(&rt, body, expected);
 }
 
 #[test]
 fn a_body_in_json_is_of_a_schema_by_its_name(rt: HostRuntime) {
-    let expected = r##"{"content":{"application/json":{"schema":{"$ref":"#/components/schemas/EmailPayload"}}},"description":"A sample requestBody","required":true}"##;
-    let builder = RequestBody::builder(rt.alloc()).description(Some(text(&rt, "A sample requestBody")));
+    let expected =
+        r##"{"content":{"application/json":{"schema":{"$ref":"#/components/schemas/EmailPayload"}}},"description":"A sample requestBody","required":true}"##;
+    let builder = RequestBody::builder(rt.alloc()).description(Some(text(
+        &rt,
+        "A sample requestBody",
+    )));
     let builder = builder.required(Some(Required::True));
     let builder = builder.json_schema_ref(rt.alloc(), "EmailPayload");
     let body = builder.expect(&rt, "memory for a content").build();
@@ -59,13 +66,18 @@ fn a_body_in_json_is_of_a_schema_by_its_name(rt: HostRuntime) {
 
 #[test]
 fn a_response_in_json_is_of_a_schema_by_its_name(rt: HostRuntime) {
-    let expected = r##"{"content":{"application/json":{"schema":{"$ref":"#/components/schemas/MySchemaPayload"}}},"description":"A sample response"}"##;
+    let expected =
+        r##"{"content":{"application/json":{"schema":{"$ref":"#/components/schemas/MySchemaPayload"}}},"description":"A sample response"}"##;
     let response = Response::new(rt.alloc(), text(&rt, "A sample response"));
     let response = response.json_schema_ref(rt.alloc(), "MySchemaPayload");
     is_written(&rt, response.expect(&rt, "memory for a content"), expected);
     let builder = Response::builder(rt.alloc()).description(text(&rt, "A sample response"));
     let builder = builder.json_schema_ref(rt.alloc(), "MySchemaPayload");
-    is_written(&rt, builder.expect(&rt, "memory for a content").build(), expected);
+    is_written(
+        &rt,
+        builder.expect(&rt, "memory for a content").build(),
+        expected,
+    );
 }
 
 // Contents put as b, a, b.
@@ -96,7 +108,9 @@ fn contents_stand_in_the_order_in_which_they_were_put(rt: HostRuntime) {
     let expected = r##"{"content":{"a":{"$ref":"#/a"},"b":{"schema":{"type":"string"}}}}"##;
     let response = b_before_a(&rt);
     stand_b_before_a(&rt, &response);
-    let copy = response.try_clone(rt.alloc()).expect(&rt, "memory for a copy");
+    let copy = response
+        .try_clone(rt.alloc())
+        .expect(&rt, "memory for a copy");
     stand_b_before_a(&rt, &copy);
     is_written(&rt, response, expected);
     is_written(&rt, read::<Response>(&rt, expected), expected);
@@ -107,13 +121,22 @@ fn a_response_holds_headers_links_and_references(rt: HostRuntime) {
     let builder = Response::builder(rt.alloc()).summary(Some(text(&rt, "s")));
     let builder = builder.extensions(extension(&rt));
     let header = Header::new(rt.alloc(), place_of(&rt, TypeWord::Integer));
-    let builder = builder.header(text(&rt, "h"), header).expect(&rt, "memory for a header");
+    let builder = builder
+        .header(text(&rt, "h"), header)
+        .expect(&rt, "memory for a header");
     let builder = builder.header_ref(text(&rt, "i"), reference(&rt, "#/i"));
     let builder = builder.expect(&rt, "memory for a reference");
-    let link = RefOr::T(Link::builder(rt.alloc()).operation_id(text(&rt, "o")).build());
-    let builder = builder.link(text(&rt, "l"), link).expect(&rt, "memory for a link");
+    let link = RefOr::T(
+        Link::builder(rt.alloc())
+            .operation_id(text(&rt, "o"))
+            .build(),
+    );
+    let builder = builder
+        .link(text(&rt, "l"), link)
+        .expect(&rt, "memory for a link");
     let place = RefOr::<Response>::from(builder);
-    let expected = r##"{"headers":{"h":{"schema":{"type":"integer"}},"i":{"$ref":"#/i"}},"links":{"l":{"operationId":"o"}},"summary":"s","x-a":1}"##;
+    let expected =
+        r##"{"headers":{"h":{"schema":{"type":"integer"}},"i":{"$ref":"#/i"}},"links":{"l":{"operationId":"o"}},"summary":"s","x-a":1}"##;
     is_written(&rt, place, expected);
 }
 
@@ -145,13 +168,19 @@ fn a_code_takes_its_later_response(rt: HostRuntime) {
     let made = Responses::from_pairs(rt.alloc(), pairs(&rt).into_iter());
     is_written(&rt, made.expect(&rt, "memory for responses"), expected);
     let builder = Responses::builder(rt.alloc()).responses_from_iter(pairs(&rt).into_iter());
-    let builder = builder.expect(&rt, "memory for responses").extensions(extension(&rt));
+    let builder = builder
+        .expect(&rt, "memory for responses")
+        .extensions(extension(&rt));
     let builder = builder.response(text(&rt, "404"), response_of(&rt, "none"));
     let responses = builder.expect(&rt, "memory for a response").build();
     let expected = r##"{"200":{"description":"later"},"404":{"description":"none"},"x-a":1}"##;
     is_written_first(&rt, &responses, expected);
     let map = BTreeMap::<String, RefOr<Response>>::from(responses);
-    is_written(&rt, map, r##"{"200":{"description":"later"},"404":{"description":"none"}}"##);
+    is_written(
+        &rt,
+        map,
+        r##"{"200":{"description":"later"},"404":{"description":"none"}}"##,
+    );
 }
 
 // ---- parameters
@@ -161,10 +190,20 @@ fn a_parameter_in_the_path_is_required(rt: HostRuntime) {
     let built = Parameter::builder(rt.alloc()).build();
     is_written(&rt, built, r#"{"in":"path","name":"","required":false}"#);
     let builder = Parameter::builder(rt.alloc()).required(Required::False);
-    is_written(&rt, builder.build(), r#"{"in":"path","name":"","required":true}"#);
+    is_written(
+        &rt,
+        builder.build(),
+        r#"{"in":"path","name":"","required":true}"#,
+    );
     let builder = Parameter::builder(rt.alloc()).parameter_in(ParameterIn::Query);
-    let builder = builder.required(Required::False).parameter_in(ParameterIn::Path);
-    is_written(&rt, builder.build(), r#"{"in":"path","name":"","required":false}"#);
+    let builder = builder
+        .required(Required::False)
+        .parameter_in(ParameterIn::Path);
+    is_written(
+        &rt,
+        builder.build(),
+        r#"{"in":"path","name":"","required":false}"#,
+    );
     let made = Parameter::new(rt.alloc(), text(&rt, "id"));
     is_written(&rt, made, r#"{"in":"path","name":"id","required":true}"#);
 }
@@ -173,12 +212,23 @@ fn a_parameter_in_the_path_is_required(rt: HostRuntime) {
 fn a_parameter_is_written_as_it_was_built(rt: HostRuntime) {
     let example = Value::try_from_str(rt.alloc(), "e").expect(&rt, "memory for a text");
     let builder = Parameter::builder(rt.alloc()).name(text(&rt, "n"));
-    let builder = builder.parameter_in(ParameterIn::Cookie).required(Required::True);
-    let builder = builder.description(Some(text(&rt, "d"))).deprecated(Some(Deprecated::True));
-    let builder = builder.schema(Some(place_of(&rt, TypeWord::String))).example(Some(example));
-    let builder = builder.style(Some(ParameterStyle::Cookie)).explode(Some(true));
-    let builder = builder.allow_reserved(Some(false)).extensions(extension(&rt));
-    let expected = r#"{"allowReserved":false,"deprecated":true,"description":"d","example":"e","explode":true,"in":"cookie","name":"n","required":true,"schema":{"type":"string"},"style":"cookie","x-a":1}"#;
+    let builder = builder
+        .parameter_in(ParameterIn::Cookie)
+        .required(Required::True);
+    let builder = builder
+        .description(Some(text(&rt, "d")))
+        .deprecated(Some(Deprecated::True));
+    let builder = builder
+        .schema(Some(place_of(&rt, TypeWord::String)))
+        .example(Some(example));
+    let builder = builder
+        .style(Some(ParameterStyle::Cookie))
+        .explode(Some(true));
+    let builder = builder
+        .allow_reserved(Some(false))
+        .extensions(extension(&rt));
+    let expected =
+        r#"{"allowReserved":false,"deprecated":true,"description":"d","example":"e","explode":true,"in":"cookie","name":"n","required":true,"schema":{"type":"string"},"style":"cookie","x-a":1}"#;
     is_written(&rt, builder.build(), expected);
 }
 
@@ -197,6 +247,7 @@ fn a_parameter_holds_contents_by_their_types(rt: HostRuntime) {
     let given = given.expect(&rt, "memory for a list");
     let builder = builder.contents_from_iter(given.into_iter());
     let parameter = builder.expect(&rt, "memory for contents").build();
-    let expected = r##"{"content":{"a":{"$ref":"#/a"},"b":{"$ref":"#/b"}},"in":"path","name":"","required":false}"##;
+    let expected =
+        r##"{"content":{"a":{"$ref":"#/a"},"b":{"$ref":"#/b"}},"in":"path","name":"","required":false}"##;
     is_written(&rt, parameter, expected);
 }
