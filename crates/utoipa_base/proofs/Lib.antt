@@ -35,3 +35,5 @@ pub mod Tried
 pub mod Readers
 pub mod FieldsInOrder
 pub mod Tokens
+pub mod AbsentMembers
+pub mod PartsRead

@@ -1,5 +1,5 @@
 -- What readers that call each other come to: a member read by its row, a table whose schemas were read first, a refusal.
-use Rattle.std.proofs.Common.{◌≡◌, ◌∙◌, ◌≤◌, ◌<◌, ◌+◌, ℕ, List, ◌∷◌, length, get_or, true, false, Option, Some, None, option_map, Box, String, Global, Bor, sym, ap, subst, arith, Result, Ok, Err, IfOk, IfErr}
+use Rattle.std.proofs.Common.{◌≡◌, ◌∙◌, ◌≤◌, ◌<◌, ◌+◌, ℕ, List, ◌∷◌, length, get_or, true, false, Option, Some, None, option_map, String, Global, Bor, sym, ap, subst, arith, Result, Ok, Err, IfOk, IfErr}
 use Rattle.std.specs.Result.{IsErrAnd}
 use Rattle.serde_json.specs.Data.{Data}
 use Rattle.serde_json.specs.Find.{get, as_array, as_object}
@@ -14,7 +14,7 @@ use Rattle.utoipa_base.specs.Reading.{read, is_null}
 use Rattle.utoipa_base.specs.Reads.{Reads}
 use Rattle.utoipa_base.specs.Tables.{row}
 use Rattle.utoipa_base.specs.Values.{values, values_at, members_values, schema_count}
-use Rattle.utoipa_base.specs.Views.{boxed, option_of}
+use Rattle.utoipa_base.specs.Views.{option_of}
 use Rattle.utoipa_base.specs.declared.fault.ReadFault.{ReadFault}
 use Rattle.utoipa_base.specs.declared.fault.ReadFault.TheVariants.{Memory, Fraction, Missing, Kind as no_kind, Word, Alternative, Text}
 use Rattle.utoipa_base.proofs.ByRows.{passes_on}
@@ -93,28 +93,28 @@ defaulted_read f name k d o v r old new found is one =
     let at = member_at name d o v found is in
     rw (field_defaulted name k d (view v.now) at, count_at name d (view v.now) at) one
 
--- an optional member that is not null, whose value was boxed
-pub optional_read : {A : Type 0} (f : A → Doc) (name : List ℕ) (k : Kind) (d : Data) (o : Option (Bor Value)) (v : Bor Value) (x : A) (b : Box A Global) (old new : ℕ) → option_map (λ w. view w.now) o ≡ get name d → o ≡ Some v → is_null (view v.now) ≡ false
-    → b.value ≡ x → Reads {A = A} (read k (view v.now)) f (Ok x) old new (values (view v.now)) → Reads {A = Option (Box A Global)} (field (row name optional k) d) (option_of (boxed f)) (Ok (Some b)) old new (values_at name d)
-optional_read f name k d o v x b old new found is full held one =
+-- an optional member that is not null
+pub optional_read : {A B : Type 0} (f : A → Doc) (g : B → Doc) (name : List ℕ) (k : Kind) (d : Data) (o : Option (Bor Value)) (v : Bor Value) (x : A) (y : B) (old new : ℕ) → option_map (λ w. view w.now) o ≡ get name d → o ≡ Some v → is_null (view v.now) ≡ false
+    → g y ≡ f x → Reads {A = A} (read k (view v.now)) f (Ok x) old new (values (view v.now)) → Reads {A = Option B} (field (row name optional k) d) (option_of g) (Ok (Some y)) old new (values_at name d)
+optional_read f g name k d o v x y old new found is full held one =
     let at = member_at name d o v found is in
     record {
-      ok = field_optional name k d (view v.now) at full ∙ ap (option_map some_doc) one.ok ∙ ap (λ y. Some (some_doc (f y))) (sym held);
+      ok = field_optional name k d (view v.now) at full ∙ ap (option_map some_doc) one.ok ∙ ap (λ z. Some (some_doc z)) (sym held);
       err = tt;
       grows = one.grows;
       at_most = omega (arith, one.at_most, count_at name d (view v.now) at);
-      at_least = λ below. omega (arith, one.at_least below, ap (λ y. schema_count (f y)) held, schema_count-some (f b.value));
+      at_least = λ below. omega (arith, one.at_least below, ap schema_count held, schema_count-some (g y));
     }
 
 -- one that is refused
-pub optional_refused : {A : Type 0} (f : A → Doc) (name : List ℕ) (k : Kind) (d : Data) (o : Option (Bor Value)) (v : Bor Value) (r : Result (Option (Box A Global)) ReadFault) (e : ReadFault) (old new : ℕ) → option_map (λ w. view w.now) o ≡ get name d
-    → o ≡ Some v → is_null (view v.now) ≡ false → IsErrAnd r (λ x. x ≡ e) → Reads {A = A} (read k (view v.now)) f (Err e) old new (values (view v.now)) → Reads (field (row name optional k) d) (option_of (boxed f)) r old new (values_at name d)
-optional_refused f name k d o v (Ok b) e old new found is full passed one = absurd passed
-optional_refused {A} f name k d o v (Err x) e old new found is full passed one =
+pub optional_refused : {A B : Type 0} (f : A → Doc) (g : B → Doc) (name : List ℕ) (k : Kind) (d : Data) (o : Option (Bor Value)) (v : Bor Value) (r : Result (Option B) ReadFault) (e : ReadFault) (old new : ℕ) → option_map (λ w. view w.now) o ≡ get name d
+    → o ≡ Some v → is_null (view v.now) ≡ false → IsErrAnd r (λ x. x ≡ e) → Reads {A = A} (read k (view v.now)) f (Err e) old new (values (view v.now)) → Reads (field (row name optional k) d) (option_of g) r old new (values_at name d)
+optional_refused f g name k d o v (Ok b) e old new found is full passed one = absurd passed
+optional_refused {A} {B} f g name k d o v (Err x) e old new found is full passed one =
     let at = member_at name d o v found is in
     record {
       ok = tt;
-      err = passes_on {T = Option (Box A Global)} (Err x) e _ _ passed one.err (λ h. field_optional name k d (view v.now) at full ∙ ap (option_map some_doc) h);
+      err = passes_on {T = Option B} (Err x) e _ _ passed one.err (λ h. field_optional name k d (view v.now) at full ∙ ap (option_map some_doc) h);
       grows = one.grows;
       at_most = omega (arith, one.at_most, count_at name d (view v.now) at);
       at_least = tt;
@@ -122,7 +122,7 @@ optional_refused {A} f name k d o v (Err x) e old new found is full passed one =
 
 -- one that is null
 pub optional_null : {A : Type 0} (f : A → Doc) (name : List ℕ) (k : Kind) (d : Data) (o : Option (Bor Value)) (v : Bor Value) (n : ℕ) → option_map (λ w. view w.now) o ≡ get name d → o ≡ Some v → is_null (view v.now) ≡ true
-    → Reads {A = Option (Box A Global)} (field (row name optional k) d) (option_of (boxed f)) (Ok None) n n (values_at name d)
+    → Reads {A = Option A} (field (row name optional k) d) (option_of f) (Ok None) n n (values_at name d)
 optional_null f name k d o v n found is none =
     record {
       ok = field_null name k d (view v.now) (member_at name d o v found is) none;
@@ -133,7 +133,7 @@ optional_null f name k d o v n found is none =
     }
 
 -- and one that is absent
-pub optional_absent : {A : Type 0} (f : A → Doc) (name : List ℕ) (k : Kind) (d : Data) (n : ℕ) → get name d ≡ None → Reads {A = Option (Box A Global)} (field (row name optional k) d) (option_of (boxed f)) (Ok None) n n (values_at name d)
+pub optional_absent : {A : Type 0} (f : A → Doc) (name : List ℕ) (k : Kind) (d : Data) (n : ℕ) → get name d ≡ None → Reads {A = Option A} (field (row name optional k) d) (option_of f) (Ok None) n n (values_at name d)
 optional_absent f name k d n gone =
     record { ok = field_absent name optional k d gone; err = tt; grows = omega arith; at_most = omega arith; at_least = λ below. omega (arith, schema_count-none) }
 

@@ -1,4 +1,3 @@
-pub mod AbsentMembers
 pub mod Counts
-pub mod PartsRead
+pub mod EncodingParts
 pub mod Weights

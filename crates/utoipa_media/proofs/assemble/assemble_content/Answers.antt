@@ -9,7 +9,7 @@ use Rattle.utoipa_base.proofs.RowLists.{reads_as}
 use Rattle.utoipa_media.specs.Docs.{content_doc, content_layer, encoding_doc}
 use Rattle.utoipa_media.specs.declared.types.Content.{out-roll-Content}
 use Rattle.utoipa_media.specs.Parts.{content_rows, encodings_rows}
-use Rattle.utoipa_media.proofs.PartsRead.{part_as, part_before, part_refused, parts_fewer, table_read}
+use Rattle.utoipa_base.proofs.PartsRead.{part_as, part_before, part_refused, parts_fewer, table_read}
 use Rattle.utoipa_media.proofs.assemble.assemble_content.Goals as goal
 
 pub returns-then-not-is_object : goal.returns-then-not-is_object

@@ -15,7 +15,8 @@ use Rattle.utoipa_media.specs.Docs.{encoding_doc, encoding_layer, header_doc}
 use Rattle.utoipa_media.specs.declared.types.Encoding.{out-roll-Encoding}
 use Rattle.utoipa_media.specs.Folds.{encoding_is}
 use Rattle.utoipa_media.specs.Parts.{encoding_head_rows, encoding_style_rows, encodings_rows}
-use Rattle.utoipa_media.proofs.PartsRead.{encoding_parts_fewer, headers_row, part_as, part_before, part_refused, row_and_part, table_read}
+use Rattle.utoipa_base.proofs.PartsRead.{part_as, part_before, part_refused, row_and_part, table_read}
+use Rattle.utoipa_media.proofs.EncodingParts.{encoding_parts_fewer, headers_row}
 use Rattle.utoipa_media.proofs.assemble.assemble_encoding.Goals as goal
 
 pub returns-then-not-is_object : goal.returns-then-not-is_object

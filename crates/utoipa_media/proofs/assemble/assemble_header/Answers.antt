@@ -11,7 +11,8 @@ use Rattle.utoipa_base.proofs.RowLists.{reads_as}
 use Rattle.utoipa_media.specs.Docs.{content_doc, header_doc, header_layer}
 use Rattle.utoipa_media.specs.declared.types.Header.{out-roll-Header}
 use Rattle.utoipa_media.specs.Parts.{header_rows}
-use Rattle.utoipa_media.proofs.PartsRead.{contents_row, no_part, part_as, part_before, part_refused, parts_fewer, row_and_part, table_read}
+use Rattle.utoipa_base.proofs.PartsRead.{no_part, part_as, part_before, part_refused, parts_fewer, row_and_part, table_read}
+use Rattle.utoipa_media.proofs.EncodingParts.{contents_row}
 use Rattle.utoipa_media.proofs.assemble.assemble_header.Goals as goal
 
 pub returns-then-not-is_object : goal.returns-then-not-is_object

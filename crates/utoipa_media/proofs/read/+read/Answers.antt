@@ -11,6 +11,7 @@ use Rattle.utoipa_base.specs.Reading.{read, is_null}
 use Rattle.utoipa_base.specs.Refs.{reference_doc, ref_or_doc}
 use Rattle.utoipa_base.specs.Views.{boxed, option_of, list_of_docs, map_of_docs}
 use Rattle.utoipa_base.specs.declared.fault.ReadFault.TheVariants.{Memory}
+use Rattle.utoipa_base.proofs.AbsentMembers.{list_absent, map_absent}
 use Rattle.utoipa_base.proofs.Alternatives.{ref_reads, own_reads}
 use Rattle.utoipa_base.proofs.ByRows.{null_as, table_refused, fields-first, fields-later}
 use Rattle.utoipa_base.proofs.Members.{member_at, count_at, list_none, map_none}
@@ -23,9 +24,8 @@ use Rattle.utoipa_base.proofs.TableParts.{join-later}
 use Rattle.utoipa_base.proofs.Tried.{fits_as, fits_not}
 use Rattle.utoipa_media.specs.Docs.{content_doc, encoding_doc, header_doc}
 use Rattle.utoipa_media.specs.Parts.{content_rows, encoding_head_rows, encoding_style_rows, header_rows}
-use Rattle.utoipa_media.proofs.AbsentMembers.{list_absent, map_absent}
 use Rattle.utoipa_media.proofs.Counts.{encoding_values, header_values}
-use Rattle.utoipa_media.proofs.PartsRead.{encodings_read}
+use Rattle.utoipa_media.proofs.EncodingParts.{encodings_read}
 use Rattle.utoipa_media.proofs.read.+read.Goals as goal
 
 pub read_encodings_by_name-read_encoding_map-requires : goal.read_encodings_by_name-read_encoding_map-requires
@@ -101,13 +101,13 @@ pub read_item_encoding-returns-then-is_null : goal.read_item_encoding-returns-th
 read_item_encoding-returns-then-is_null t c =
     let found : option_map (λ v. view v.now) c.get.result ≡ get (codes "itemEncoding") (view c.args.tree.now) = search rules in
     let none : is_null (view c.in-Some.member.now) ≡ true = search (rules, null_as) in
-    optional_null encoding_doc (codes "itemEncoding") (named encoding_object) (view c.args.tree.now) c.get.result c.in-Some.member _ found c.in-Some.is none
+    optional_null (boxed encoding_doc) (codes "itemEncoding") (named encoding_object) (view c.args.tree.now) c.get.result c.in-Some.member _ found c.in-Some.is none
 
 pub read_item_encoding-returns-in_err-value-in-Some : goal.read_item_encoding-returns-in_err-value-in-Some
 read_item_encoding-returns-in_err-value-in-Some t c =
     let found : option_map (λ v. view v.now) c.get.result ≡ get (codes "itemEncoding") (view c.args.tree.now) = search rules in
     let full : is_null (view c.in-Some.member.now) ≡ false = search (rules, null_as) in
-    optional_refused encoding_doc (codes "itemEncoding") (named encoding_object) (view c.args.tree.now) c.get.result c.in-Some.member _ _ _ _ found c.in-Some.is full c.from_residual.ensures.1 c.in_err-value-in-Some.ensures
+    optional_refused encoding_doc (boxed encoding_doc) (codes "itemEncoding") (named encoding_object) (view c.args.tree.now) c.get.result c.in-Some.member _ _ _ _ found c.in-Some.is full c.from_residual.ensures.1 c.in_err-value-in-Some.ensures
 
 pub read_item_encoding-returns-in_err-new-in-Some : goal.read_item_encoding-returns-in_err-new-in-Some
 read_item_encoding-returns-in_err-new-in-Some t c =
@@ -121,12 +121,12 @@ read_item_encoding-returns-in_ok-new-in-Some t c =
     let found : option_map (λ v. view v.now) c.get.result ≡ get (codes "itemEncoding") (view c.args.tree.now) = search rules in
     let full : is_null (view c.in-Some.member.now) ≡ false = search (rules, null_as) in
     let held : c.in_ok-new-in-Some.field-0.value ≡ c.in_ok-value-in-Some.value = search rules in
-    optional_read encoding_doc (codes "itemEncoding") (named encoding_object) (view c.args.tree.now) c.get.result c.in-Some.member _ _ _ _ found c.in-Some.is full held c.in_ok-value-in-Some.ensures
+    optional_read encoding_doc (boxed encoding_doc) (codes "itemEncoding") (named encoding_object) (view c.args.tree.now) c.get.result c.in-Some.member _ _ _ _ found c.in-Some.is full (ap encoding_doc held) c.in_ok-value-in-Some.ensures
 
 pub read_item_encoding-returns-in-None : goal.read_item_encoding-returns-in-None
 read_item_encoding-returns-in-None t c =
     let gone : get (codes "itemEncoding") (view c.args.tree.now) ≡ None = search rules in
-    optional_absent encoding_doc (codes "itemEncoding") (named encoding_object) (view c.args.tree.now) _ gone
+    optional_absent (boxed encoding_doc) (codes "itemEncoding") (named encoding_object) (view c.args.tree.now) _ gone
 
 pub read_encoding_list-returns-in_default : goal.read_encoding_list-returns-in_default
 read_encoding_list-returns-in_default t c =

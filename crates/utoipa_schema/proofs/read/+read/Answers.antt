@@ -13,7 +13,7 @@ use Rattle.utoipa_base.specs.Kinds.{named, schema, ref_or, list_of, map_of, arra
 use Rattle.utoipa_base.specs.Reading.{read, is_null}
 use Rattle.utoipa_base.specs.Refs.{reference_doc, ref_or_doc}
 use Rattle.utoipa_base.specs.Values.{schema_count}
-use Rattle.utoipa_base.specs.Views.{list_of_docs, map_of_docs, pairs_of}
+use Rattle.utoipa_base.specs.Views.{boxed, list_of_docs, map_of_docs, pairs_of}
 use Rattle.utoipa_base.proofs.Alternatives.{ref_reads, own_reads}
 use Rattle.utoipa_base.proofs.ByRows.{passes_on, null_as, table_refused, fields-first, fields-later, read-no_object}
 use Rattle.utoipa_base.proofs.Members.{member_at, count_at, field_absent, list_none, map_none}
@@ -118,13 +118,13 @@ pub read_content_schema-returns-then-is_null : goal.read_content_schema-returns-
 read_content_schema-returns-then-is_null t c =
     let found : option_map (λ v. view v.now) c.get.result ≡ get (codes "contentSchema") (view c.args.tree.now) = search rules in
     let none : is_null (view c.in-Some.member.now) ≡ true = search (rules, null_as) in
-    optional_null (ref_or_doc schema schema_doc) (codes "contentSchema") (ref_or schema) (view c.args.tree.now) c.get.result c.in-Some.member _ found c.in-Some.is none
+    optional_null (boxed (ref_or_doc schema schema_doc)) (codes "contentSchema") (ref_or schema) (view c.args.tree.now) c.get.result c.in-Some.member _ found c.in-Some.is none
 
 pub read_content_schema-returns-in_err-value-in-Some : goal.read_content_schema-returns-in_err-value-in-Some
 read_content_schema-returns-in_err-value-in-Some t c =
     let found : option_map (λ v. view v.now) c.get.result ≡ get (codes "contentSchema") (view c.args.tree.now) = search rules in
     let full : is_null (view c.in-Some.member.now) ≡ false = search (rules, null_as) in
-    optional_refused (ref_or_doc schema schema_doc) (codes "contentSchema") (ref_or schema) (view c.args.tree.now) c.get.result c.in-Some.member _ _ _ _ found c.in-Some.is full c.from_residual.ensures.1 c.in_err-value-in-Some.ensures
+    optional_refused (ref_or_doc schema schema_doc) (boxed (ref_or_doc schema schema_doc)) (codes "contentSchema") (ref_or schema) (view c.args.tree.now) c.get.result c.in-Some.member _ _ _ _ found c.in-Some.is full c.from_residual.ensures.1 c.in_err-value-in-Some.ensures
 
 pub read_content_schema-returns-in_err-new-in-Some : goal.read_content_schema-returns-in_err-new-in-Some
 read_content_schema-returns-in_err-new-in-Some t c =
@@ -138,12 +138,12 @@ read_content_schema-returns-in_ok-new-in-Some t c =
     let found : option_map (λ v. view v.now) c.get.result ≡ get (codes "contentSchema") (view c.args.tree.now) = search rules in
     let full : is_null (view c.in-Some.member.now) ≡ false = search (rules, null_as) in
     let held : c.in_ok-new-in-Some.field-0.value ≡ c.in_ok-value-in-Some.value = search rules in
-    optional_read (ref_or_doc schema schema_doc) (codes "contentSchema") (ref_or schema) (view c.args.tree.now) c.get.result c.in-Some.member _ _ _ _ found c.in-Some.is full held c.in_ok-value-in-Some.ensures
+    optional_read (ref_or_doc schema schema_doc) (boxed (ref_or_doc schema schema_doc)) (codes "contentSchema") (ref_or schema) (view c.args.tree.now) c.get.result c.in-Some.member _ _ _ _ found c.in-Some.is full (ap (ref_or_doc schema schema_doc) held) c.in_ok-value-in-Some.ensures
 
 pub read_content_schema-returns-in-None : goal.read_content_schema-returns-in-None
 read_content_schema-returns-in-None t c =
     let gone : get (codes "contentSchema") (view c.args.tree.now) ≡ None = search rules in
-    optional_absent (ref_or_doc schema schema_doc) (codes "contentSchema") (ref_or schema) (view c.args.tree.now) _ gone
+    optional_absent (boxed (ref_or_doc schema schema_doc)) (codes "contentSchema") (ref_or schema) (view c.args.tree.now) _ gone
 
 pub read_additional_properties-read_additional-requires : goal.read_additional_properties-read_additional-requires
 read_additional_properties-read_additional-requires t c =
@@ -154,13 +154,13 @@ pub read_additional_properties-returns-then-is_null : goal.read_additional_prope
 read_additional_properties-returns-then-is_null t c =
     let found : option_map (λ v. view v.now) c.get.result ≡ get (codes "additionalProperties") (view c.args.tree.now) = search rules in
     let none : is_null (view c.in-Some.member.now) ≡ true = search (rules, null_as) in
-    optional_null (additional_properties_doc schema_doc) (codes "additionalProperties") additional_kind (view c.args.tree.now) c.get.result c.in-Some.member _ found c.in-Some.is none
+    optional_null (boxed (additional_properties_doc schema_doc)) (codes "additionalProperties") additional_kind (view c.args.tree.now) c.get.result c.in-Some.member _ found c.in-Some.is none
 
 pub read_additional_properties-returns-in_err-value-in-Some : goal.read_additional_properties-returns-in_err-value-in-Some
 read_additional_properties-returns-in_err-value-in-Some t c =
     let found : option_map (λ v. view v.now) c.get.result ≡ get (codes "additionalProperties") (view c.args.tree.now) = search rules in
     let full : is_null (view c.in-Some.member.now) ≡ false = search (rules, null_as) in
-    optional_refused (additional_properties_doc schema_doc) (codes "additionalProperties") additional_kind (view c.args.tree.now) c.get.result c.in-Some.member _ _ _ _ found c.in-Some.is full c.from_residual.ensures.1 c.in_err-value-in-Some.ensures
+    optional_refused (additional_properties_doc schema_doc) (boxed (additional_properties_doc schema_doc)) (codes "additionalProperties") additional_kind (view c.args.tree.now) c.get.result c.in-Some.member _ _ _ _ found c.in-Some.is full c.from_residual.ensures.1 c.in_err-value-in-Some.ensures
 
 pub read_additional_properties-returns-in_err-new-in-Some : goal.read_additional_properties-returns-in_err-new-in-Some
 read_additional_properties-returns-in_err-new-in-Some t c =
@@ -174,12 +174,12 @@ read_additional_properties-returns-in_ok-new-in-Some t c =
     let found : option_map (λ v. view v.now) c.get.result ≡ get (codes "additionalProperties") (view c.args.tree.now) = search rules in
     let full : is_null (view c.in-Some.member.now) ≡ false = search (rules, null_as) in
     let held : c.in_ok-new-in-Some.field-0.value ≡ c.in_ok-value-in-Some.value = search rules in
-    optional_read (additional_properties_doc schema_doc) (codes "additionalProperties") additional_kind (view c.args.tree.now) c.get.result c.in-Some.member _ _ _ _ found c.in-Some.is full held c.in_ok-value-in-Some.ensures
+    optional_read (additional_properties_doc schema_doc) (boxed (additional_properties_doc schema_doc)) (codes "additionalProperties") additional_kind (view c.args.tree.now) c.get.result c.in-Some.member _ _ _ _ found c.in-Some.is full (ap (additional_properties_doc schema_doc) held) c.in_ok-value-in-Some.ensures
 
 pub read_additional_properties-returns-in-None : goal.read_additional_properties-returns-in-None
 read_additional_properties-returns-in-None t c =
     let gone : get (codes "additionalProperties") (view c.args.tree.now) ≡ None = search rules in
-    optional_absent (additional_properties_doc schema_doc) (codes "additionalProperties") additional_kind (view c.args.tree.now) _ gone
+    optional_absent (boxed (additional_properties_doc schema_doc)) (codes "additionalProperties") additional_kind (view c.args.tree.now) _ gone
 
 pub read_property_names-read_schema-requires : goal.read_property_names-read_schema-requires
 read_property_names-read_schema-requires t c =
@@ -190,13 +190,13 @@ pub read_property_names-returns-then-is_null : goal.read_property_names-returns-
 read_property_names-returns-then-is_null t c =
     let found : option_map (λ v. view v.now) c.get.result ≡ get (codes "propertyNames") (view c.args.tree.now) = search rules in
     let none : is_null (view c.in-Some.member.now) ≡ true = search (rules, null_as) in
-    optional_null schema_doc (codes "propertyNames") schema (view c.args.tree.now) c.get.result c.in-Some.member _ found c.in-Some.is none
+    optional_null (boxed schema_doc) (codes "propertyNames") schema (view c.args.tree.now) c.get.result c.in-Some.member _ found c.in-Some.is none
 
 pub read_property_names-returns-in_err-value-in-Some : goal.read_property_names-returns-in_err-value-in-Some
 read_property_names-returns-in_err-value-in-Some t c =
     let found : option_map (λ v. view v.now) c.get.result ≡ get (codes "propertyNames") (view c.args.tree.now) = search rules in
     let full : is_null (view c.in-Some.member.now) ≡ false = search (rules, null_as) in
-    optional_refused schema_doc (codes "propertyNames") schema (view c.args.tree.now) c.get.result c.in-Some.member _ _ _ _ found c.in-Some.is full c.from_residual.ensures.1 c.in_err-value-in-Some.ensures
+    optional_refused schema_doc (boxed schema_doc) (codes "propertyNames") schema (view c.args.tree.now) c.get.result c.in-Some.member _ _ _ _ found c.in-Some.is full c.from_residual.ensures.1 c.in_err-value-in-Some.ensures
 
 pub read_property_names-returns-in_err-new-in-Some : goal.read_property_names-returns-in_err-new-in-Some
 read_property_names-returns-in_err-new-in-Some t c =
@@ -210,12 +210,12 @@ read_property_names-returns-in_ok-new-in-Some t c =
     let found : option_map (λ v. view v.now) c.get.result ≡ get (codes "propertyNames") (view c.args.tree.now) = search rules in
     let full : is_null (view c.in-Some.member.now) ≡ false = search (rules, null_as) in
     let held : c.in_ok-new-in-Some.field-0.value ≡ c.in_ok-value-in-Some.value = search rules in
-    optional_read schema_doc (codes "propertyNames") schema (view c.args.tree.now) c.get.result c.in-Some.member _ _ _ _ found c.in-Some.is full held c.in_ok-value-in-Some.ensures
+    optional_read schema_doc (boxed schema_doc) (codes "propertyNames") schema (view c.args.tree.now) c.get.result c.in-Some.member _ _ _ _ found c.in-Some.is full (ap schema_doc held) c.in_ok-value-in-Some.ensures
 
 pub read_property_names-returns-in-None : goal.read_property_names-returns-in-None
 read_property_names-returns-in-None t c =
     let gone : get (codes "propertyNames") (view c.args.tree.now) ≡ None = search rules in
-    optional_absent schema_doc (codes "propertyNames") schema (view c.args.tree.now) _ gone
+    optional_absent (boxed schema_doc) (codes "propertyNames") schema (view c.args.tree.now) _ gone
 
 pub read_schemas-returns-in_default : goal.read_schemas-returns-in_default
 read_schemas-returns-in_default t c =

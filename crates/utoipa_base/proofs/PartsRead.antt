@@ -1,23 +1,18 @@
 -- The parts of a table, read one after the other with one counter: what they come to together.
-use Rattle.std.proofs.Common.{◌≡◌, ◌∙◌, ◌+◌, ◌≤◌, ◌++◌, ℕ, List, [], ◌∷◌, true, Option, Some, option_map, refl, sym, ap, is_some, arith, codes, Result, Ok, Err, Box, Global}
+use Rattle.std.proofs.Common.{◌≡◌, ◌∙◌, ◌+◌, ◌≤◌, ◌++◌, ℕ, List, [], ◌∷◌, true, Option, Some, option_map, sym, ap, is_some, arith, Result, Ok, Err}
 use Rattle.std.specs.Result.{IsErrAnd}
 use Rattle.serde_json.specs.Data.{Data, Members}
 use Rattle.serde_json.specs.Find.{get, as_object}
 use Rattle.utoipa_base.specs.Docs.{Doc, Docs, no_docs, doc, list_doc, table_doc}
 use Rattle.utoipa_base.specs.Extensions.{extensions_at}
 use Rattle.utoipa_base.specs.Fields.{field, fields}
-use Rattle.utoipa_base.specs.Kinds.{ObjectType, Row, named, ref_or, list_of, map_of, media_type_object, encoding_object, header_object, optional, defaulted}
+use Rattle.utoipa_base.specs.Kinds.{ObjectType, Row, named}
 use Rattle.utoipa_base.specs.Reading.{read}
 use Rattle.utoipa_base.specs.Reads.{Reads}
 use Rattle.utoipa_base.specs.Rows.{part, rows_values}
-use Rattle.utoipa_base.specs.Tables.{row, table, has_extensions}
-use Rattle.utoipa_base.specs.Values.{values, values_at, values_of, schema_count, docs_schema_count}
-use Rattle.utoipa_base.specs.Views.{boxed, option_of, list_of_docs, map_of_docs}
+use Rattle.utoipa_base.specs.Tables.{table, has_extensions}
+use Rattle.utoipa_base.specs.Values.{values, values_of, schema_count, docs_schema_count}
 use Rattle.utoipa_base.specs.declared.fault.ReadFault.{ReadFault}
-use Rattle.utoipa_media.specs.Builders.{Encodings, ItemEncodings}
-use Rattle.utoipa_media.specs.Docs.{encoding_doc}
-use Rattle.utoipa_media.specs.Parts.{encoding_head_rows, encoding_style_rows, encodings_rows, encodings_docs}
-use Rattle.utoipa_media.specs.declared.types.Encoding.{Encoding}
 use Rattle.utoipa_base.proofs.ByRows.{fields-nil, fields-fit, table_refused}
 use Rattle.utoipa_base.proofs.Places.{docs_schema_count-none, docs_schema_count-cons, schema_count-list}
 use Rattle.utoipa_base.proofs.RowLists.{list_as_table, passes_reads, rows_fewer, rows_fit}
@@ -29,7 +24,7 @@ PartRead rows d ds old new = Reads {A = Docs} (part rows d) list_doc (Ok ds) old
 
 -- ---- sums
 
-values_join : (rs ss : List Row) (d : Data) → rows_values (rs ++ ss) d ≡ rows_values rs d + rows_values ss d
+pub values_join : (rs ss : List Row) (d : Data) → rows_values (rs ++ ss) d ≡ rows_values rs d + rows_values ss d
 values_join [] ss d = omega arith
 values_join (r ∷ rs) ss d = omega (arith, values_join rs ss d)
 
@@ -109,28 +104,3 @@ part_refused f g n rs ss d ys r e old mid new is one passed refusal =
     (λ h. table_refused n d (ap (λ x. fields x d) (sym is) ∙ join-first rs ss d (no_fields_of_part rs d h)))
     one.grows
     (omega (arith, one.at_most, parts_fewer n rs ss d is))
-
--- ---- the rows of members that hold contents, encodings or headers
-
-abbrev pub headers_row : Row
-headers_row = row (codes "headers") defaulted (map_of (ref_or (named header_object)))
-
-abbrev pub contents_row : Row
-contents_row = row (codes "content") defaulted (map_of (ref_or (named media_type_object)))
-
--- the parts of an encoding have together no more values than it
-pub encoding_parts_fewer : (d : Data) → rows_values encoding_head_rows d + (values_at (codes "headers") d + (rows_values encoding_style_rows d + rows_values encodings_rows d)) ≤ values d
-encoding_parts_fewer d =
-    let all : rows_values encoding_head_rows d + (values_at (codes "headers") d + rows_values (encoding_style_rows ++ encodings_rows) d) ≤ values d = parts_fewer encoding_object encoding_head_rows (headers_row ∷ (encoding_style_rows ++ encodings_rows)) d refl in
-    omega (arith, all, values_join encoding_style_rows encodings_rows d)
-
--- the members that hold encodings
-pub encodings_read : (d : Data) (by_name : Encodings) (first : ItemEncodings) (item : Option (Box Encoding Global)) (old mid later new : ℕ)
-    → Reads {A = Encodings} (field (row (codes "encoding") defaulted (map_of (named encoding_object))) d) (map_of_docs encoding_doc) (Ok by_name) old mid (values_at (codes "encoding") d)
-    → Reads {A = ItemEncodings} (field (row (codes "prefixEncoding") defaulted (list_of (named encoding_object))) d) (list_of_docs encoding_doc) (Ok first) mid later (values_at (codes "prefixEncoding") d)
-    → Reads {A = Option (Box Encoding Global)} (field (row (codes "itemEncoding") optional (named encoding_object)) d) (option_of (boxed encoding_doc)) (Ok item) later new (values_at (codes "itemEncoding") d)
-    → PartRead encodings_rows d (encodings_docs by_name first item) old new
-encodings_read d by_name first item old mid later new one two three =
-    row_and_part (map_of_docs encoding_doc) _ _ d by_name _ old mid new one
-    (row_and_part (list_of_docs encoding_doc) _ _ d first _ mid later new two
-    (row_and_part (option_of (boxed encoding_doc)) _ [] d item no_docs later new new three (no_part d new)))
