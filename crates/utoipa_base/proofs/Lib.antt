@@ -37,3 +37,4 @@ pub mod FieldsInOrder
 pub mod Tokens
 pub mod AbsentMembers
 pub mod PartsRead
+pub mod TakenBack

@@ -6,7 +6,6 @@ pub mod Docs
 pub mod ByName
 pub mod Tables
 pub mod Extensions
-pub mod Merging
 pub mod Reading
 pub mod Writing
 pub mod NormalForm
@@ -22,6 +21,7 @@ pub mod Refs
 pub mod OfKind
 pub mod Lists
 pub mod Fill
+pub mod AllOrNone
 pub mod References
 pub mod Flags
 pub mod Numbers

@@ -6,14 +6,13 @@ ghost use Rattle.serde_json.specs.Find.{get_member};
 ghost use Rattle.serde_json.specs.View.{view, members_view};
 ghost use Rattle.serde_json.specs.Written.{members_have_float};
 
+use crate::all_or_none::put_all;
 use crate::fraction::members_have_fraction;
 use crate::same_trees::same_members;
-use merging::merge_members;
 use serde_json::{Map, Value};
 use std::alloc::{AllocError, Global};
 use std::collections::BTreeMap;
 
-mod merging;
 mod trees;
 
 pub use trees::{clone_extensions, is_extension_name, read_extensions, written_extensions};
@@ -72,7 +71,7 @@ impl Extensions {
             ≡ option_or (get_member name (extensions_view other)) (get_member name (extensions_view self.old))) }
         ensures err { OnErr result (extensions_view self.new ≡ extensions_view self.old) }
     {
-        merge_members(&mut self.entries, alloc, other.entries)
+        put_all(&mut self.entries, alloc, other.entries)
     }
 
     /// The value of an extension, by its whole name.

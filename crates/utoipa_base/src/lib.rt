@@ -2,6 +2,7 @@
 //! types that are read from a tree and written as one.
 #![tactic(auto)]
 
+pub mod all_or_none;
 pub mod compare;
 pub mod deprecated;
 pub mod empty;
@@ -27,6 +28,7 @@ pub mod table;
 pub mod tree;
 pub mod words;
 
+pub use all_or_none::put_all;
 pub use compare::{
     Same, extensions_have_fraction, option_has_fraction, same_extensions, same_option,
 };
