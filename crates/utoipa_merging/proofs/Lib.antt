@@ -1,0 +1,14 @@
+pub mod JoinedLists
+pub mod Options
+pub mod Composition
+pub mod Shapes
+pub mod InOrder
+pub mod Determined
+pub mod Unique
+pub mod Nesting
+pub mod MapViews
+pub mod Lookups
+pub mod PutEach
+pub mod ItemWalks
+pub mod Filled
+pub mod Examples

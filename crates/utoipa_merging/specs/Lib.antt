@@ -1,0 +1,5 @@
+pub mod Rules
+pub mod Slots
+pub mod Merged
+pub mod Nested
+pub mod Example
