@@ -13,10 +13,10 @@ returns-clause-ok g c =
     let old = c.args.map.now in
     on_ok_weaker c.put_all.result
     (λ put name.
-      ap (λ es. found es name) put
-      ∙ found-put_each missing.entries old.entries c.put_all.ensures.ordered name
-      ∙ ap (λ o. option_or o (get_by_text old name)) (c.keep_missing.ensures name)
-      ∙ missing_put (get_by_text old name) (get_by_text c.args.later name))
+    ap (λ es. found es name) put
+    ∙ found-put_each missing.entries old.entries c.put_all.ensures.ordered name
+    ∙ ap (λ o. option_or o (get_by_text old name)) (c.keep_missing.ensures name)
+    ∙ missing_put (get_by_text old name) (get_by_text c.args.later name))
     c.put_all.ensures.ok
 
 pub returns-clause-ordered : goal.returns-clause-ordered

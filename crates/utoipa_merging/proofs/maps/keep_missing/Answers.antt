@@ -1,4 +1,4 @@
-use Rattle.std.proofs.Common.{◌≡◌, ℕ, List, Bool, not, true, ap, sym, ◌∙◌, rules, string_bytes, nat_cmp}
+use Rattle.std.proofs.Common.{ℕ, List, Bool, not, ap, sym, ◌∙◌, rules, string_bytes, nat_cmp}
 use Rattle.std.specs.BTreeMap.{get_by_text, is_at}
 use Rattle.std.specs.Cmp.Lexicographic.{slice_cmp}
 use Rattle.std.specs.Option.{is_some}
