@@ -1,5 +1,5 @@
--- What it means that documents are merged into one: each slot is that slot of the whole list, by the slot's rule. It is a relation, and
--- says nothing of the order of keys, which stands apart: up to that order it pins the document.
+-- What it means that documents are merged into one: each slot comes from that slot of all documents at once, by the slot's rule. The order
+-- of keys stands apart (`IsInKeyOrder`): of the documents in that order it pins one.
 use Rattle.std.specs.Prelude.{◌≡◌, ℕ, List, [], ◌∷◌, ◌++◌, None, map, IfSome, codes}
 use Rattle.std.specs.List.{list_any}
 use Rattle.std.specs.List.Sorted.{IsStrictlySortedBy}
@@ -49,7 +49,7 @@ pub record AreComponentsMerged (all : List Doc) (components : Doc) : Type 0 wher
 
 -- ---- documents that are merged
 
--- d is what the documents are merged into. Where there are no documents there is no such d.
+-- d is what the documents are merged into. Of no documents there is no such d.
 pub record IsMerged (documents : List Doc) (d : Doc) : Type 0 where
   pub of_kind : IsOpenApi d
   -- version, info, webhooks, external docs, dialect, `$schema`, `$self` and the document's own extensions are the first document's
