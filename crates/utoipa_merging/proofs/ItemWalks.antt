@@ -1,5 +1,5 @@
 -- A map of path items that takes those of another, front to back; and path items of many maps, one map after the other.
-use Rattle.std.proofs.Common.{◌≡◌, ℕ, List, [], ◌∷◌, ◌++◌, Bool, true, false, cond, Option, Some, None, option_map, option_and_then, refl, sym, ap, ◌∙◌, String, BTreeMap, Global, string_bytes, string_cmp}
+use Rattle.std.proofs.Common.{◌≡◌, ℕ, List, [], ◌∷◌, ◌++◌, length, Bool, true, false, cond, Option, Some, None, option_map, option_and_then, refl, sym, ap, ◌∙◌, String, BTreeMap, Global, string_bytes, string_cmp, arith}
 use Rattle.std.specs.Option.{option_or}
 use Rattle.std.specs.Str.{bytes_eq}
 use Rattle.std.specs.List.Sorted.{IsStrictlySortedBy}
@@ -70,3 +70,8 @@ items_none f m is path s = path_slot-map f m path s ∙ ap (λ es. slot_in f s (
 -- those of one more map
 pub items_more : (all : List Doc) (so_far next more : Doc) → AreItemsMerged all so_far → AreItemsMerged (so_far ∷ next ∷ []) more → AreItemsMerged (all ++ next ∷ []) more
 items_more all so_far next more h g path s = first_composes (path_slot path s) all (next ∷ []) so_far next more (h path s) (sym (or_none (path_slot path s next))) (g path s)
+
+-- an iterator of n maps, none of which is left
+pub none_left : {X : Type 0} (xs : List X) (n : ℕ) → n ≡ length xs → n ≡ 0 → xs ≡ []
+none_left [] n is none = refl
+none_left (x ∷ xs) n is none = absurd (omega arith)
