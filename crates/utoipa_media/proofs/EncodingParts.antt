@@ -1,5 +1,5 @@
 -- The parts of the tables of contents, encodings and headers, read one after the other.
-use Rattle.std.proofs.Common.{◌+◌, ◌≤◌, ◌++◌, ℕ, ◌∷◌, Option, refl, arith, codes, Ok, Box, Global}
+use Rattle.std.proofs.Common.{◌+◌, ◌≤◌, ◌++◌, ℕ, [], ◌∷◌, Option, refl, arith, codes, Ok, Box, Global}
 use Rattle.serde_json.specs.Data.{Data}
 use Rattle.utoipa_base.specs.Docs.{no_docs}
 use Rattle.utoipa_base.specs.Fields.{field}
