@@ -1,0 +1,6 @@
+pub mod AddedItems
+pub mod FilledItem
+pub mod ByMethod
+pub mod PathParts
+pub mod RowsByFields
+pub mod Weights

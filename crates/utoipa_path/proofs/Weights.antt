@@ -1,0 +1,51 @@
+-- What an operation or a path item holds is lighter than its table.
+use Rattle.std.proofs.Common.{◌<◌, ◌≤◌, arith, ap}
+use Rattle.utoipa_base.specs.Views.{option_of, map_of_docs}
+use Rattle.utoipa_base.proofs.Weights.{weight, docs_weight}
+use Rattle.utoipa_path.specs.Docs.{operations_of, operation_layer, operation_doc, path_item_doc, callbacks_doc}
+use Rattle.utoipa_path.specs.Folds.{operation_is}
+use Rattle.utoipa_path.specs.declared.types.Operation.{Operation, out-Operation}
+use Rattle.utoipa_path.specs.declared.types.PathItem.{PathItem, out-PathItem}
+
+callbacks_weight : (o : Operation) → weight (callbacks_doc (out-Operation o).callbacks) < weight (operation_layer path_item_doc (out-Operation o))
+unfolding weight docs_weight
+callbacks_weight o = omega arith
+
+-- the callbacks of an operation
+pub held_by_operation : (o : Operation) → weight (callbacks_doc (out-Operation o).callbacks) < weight (operation_doc o)
+held_by_operation o = omega (arith, callbacks_weight o, ap weight (operation_is o))
+
+-- the operations of a path item, all together
+pub lighter_operations : (i : PathItem) → docs_weight (operations_of operation_doc (out-PathItem i)) < weight (path_item_doc i)
+unfolding weight docs_weight
+lighter_operations i = omega arith
+
+-- each member that holds operations, in the order of the table
+pub among_operations : (i : PathItem) → (weight (option_of operation_doc (out-PathItem i).get) ≤ docs_weight (operations_of operation_doc (out-PathItem i)))
+    × (weight (option_of operation_doc (out-PathItem i).put) ≤ docs_weight (operations_of operation_doc (out-PathItem i)))
+    × (weight (option_of operation_doc (out-PathItem i).post) ≤ docs_weight (operations_of operation_doc (out-PathItem i)))
+    × (weight (option_of operation_doc (out-PathItem i).delete) ≤ docs_weight (operations_of operation_doc (out-PathItem i)))
+    × (weight (option_of operation_doc (out-PathItem i).options) ≤ docs_weight (operations_of operation_doc (out-PathItem i)))
+    × (weight (option_of operation_doc (out-PathItem i).head) ≤ docs_weight (operations_of operation_doc (out-PathItem i)))
+    × (weight (option_of operation_doc (out-PathItem i).patch) ≤ docs_weight (operations_of operation_doc (out-PathItem i)))
+    × (weight (option_of operation_doc (out-PathItem i).trace) ≤ docs_weight (operations_of operation_doc (out-PathItem i)))
+    × (weight (option_of operation_doc (out-PathItem i).query) ≤ docs_weight (operations_of operation_doc (out-PathItem i)))
+    × (weight (map_of_docs operation_doc (out-PathItem i).additional_operations) ≤ docs_weight (operations_of operation_doc (out-PathItem i)))
+unfolding docs_weight
+among_operations i = (omega arith, omega arith, omega arith, omega arith, omega arith, omega arith, omega arith, omega arith, omega arith, omega arith)
+
+-- and so each of them is lighter than the path item
+pub held_by_path_item : (i : PathItem) → (weight (option_of operation_doc (out-PathItem i).get) < weight (path_item_doc i))
+    × (weight (option_of operation_doc (out-PathItem i).put) < weight (path_item_doc i))
+    × (weight (option_of operation_doc (out-PathItem i).post) < weight (path_item_doc i))
+    × (weight (option_of operation_doc (out-PathItem i).delete) < weight (path_item_doc i))
+    × (weight (option_of operation_doc (out-PathItem i).options) < weight (path_item_doc i))
+    × (weight (option_of operation_doc (out-PathItem i).head) < weight (path_item_doc i))
+    × (weight (option_of operation_doc (out-PathItem i).patch) < weight (path_item_doc i))
+    × (weight (option_of operation_doc (out-PathItem i).trace) < weight (path_item_doc i))
+    × (weight (option_of operation_doc (out-PathItem i).query) < weight (path_item_doc i))
+    × (weight (map_of_docs operation_doc (out-PathItem i).additional_operations) < weight (path_item_doc i))
+held_by_path_item i =
+    let each = among_operations i in
+    let all = lighter_operations i in
+    (omega (arith, each.0, all), omega (arith, each.1, all), omega (arith, each.2, all), omega (arith, each.3, all), omega (arith, each.4, all), omega (arith, each.5, all), omega (arith, each.6, all), omega (arith, each.7, all), omega (arith, each.8, all), omega (arith, each.9, all))

@@ -1,0 +1,401 @@
+-- The answers of the functions that read operations and path items.
+use Rattle.std.proofs.Common.{◌≡◌, true, false, [], take, drop, Ok, Some, None, option_map, string_cmp, sym, ap, ◌∙◌, subst, arith, rules, codes, refl}
+use Rattle.std.specs.List.Sorted.{IsStrictlySortedBy}
+use Rattle.std.specs.Map.{keys_of}
+use Rattle.serde_json.specs.Find.{get, as_object}
+use Rattle.serde_json.specs.View.{view, members_view}
+use Rattle.utoipa_base.specs.Docs.{list_doc}
+use Rattle.utoipa_base.specs.Faults.{fitting}
+use Rattle.utoipa_base.specs.Kinds.{named, ref_or, map_of, reference_object, operation_object, path_item_object}
+use Rattle.utoipa_base.specs.Reading.{read, is_null}
+use Rattle.utoipa_base.specs.Refs.{reference_doc, ref_or_doc}
+use Rattle.utoipa_base.specs.Tables.{callback}
+use Rattle.utoipa_base.specs.Views.{map_of_docs}
+use Rattle.utoipa_base.specs.declared.fault.ReadFault.TheVariants.{Memory}
+use Rattle.utoipa_base.proofs.AbsentMembers.{map_absent}
+use Rattle.utoipa_base.proofs.Alternatives.{ref_reads, own_reads}
+use Rattle.utoipa_base.proofs.ByRows.{null_as, table_refused, fields-first}
+use Rattle.utoipa_base.proofs.Members.{map_none}
+use Rattle.utoipa_base.proofs.PartsRead.{parts_fewer}
+use Rattle.utoipa_base.proofs.Places.{own_none, own_places, reference_uncounted}
+use Rattle.utoipa_base.proofs.Readers.{refused_unread, passes_refusal, passes_memory, reads_value, member_fewer, defaulted_read, optional_read, optional_refused, optional_null, optional_absent, entry_fewer}
+use Rattle.utoipa_base.proofs.ReadingMaps.{map_begun, map_step, map_refused, map_within, map_within_next, map_read}
+use Rattle.utoipa_base.proofs.RowLists.{passes_reads, reads_as}
+use Rattle.utoipa_base.proofs.TableParts.{join-later, no_fields_of_part}
+use Rattle.utoipa_base.proofs.Tried.{fits_as, fits_not}
+use Rattle.utoipa_path.specs.Docs.{operations_of, operation_doc, path_item_doc, callback_doc}
+use Rattle.utoipa_path.specs.Parts.{description_rows, message_rows, base_rows, operations_rows}
+use Rattle.utoipa_path.specs.declared.types.PathItem.{out-PathItem, out-roll-PathItem}
+use Rattle.utoipa_path.proofs.PathParts.{callbacks_fewer, operations_values, method_row, additional_row, refused_among, operations_read}
+use Rattle.utoipa_path.proofs.read.+read.Goals as goal
+
+pub read_callbacks-read_callback_map-requires : goal.read_callbacks-read_callback_map-requires
+read_callbacks-read_callback_map-requires t c =
+    let found : option_map (λ v. view v.now) c.get.result ≡ get (codes "callbacks") (view c.args.tree.now) = search rules in
+    (omega (arith, member_fewer (codes "callbacks") (view c.args.tree.now) c.get.result c.in-Some.member found c.in-Some.is), tt)
+
+pub read_callbacks-returns-in-Some : goal.read_callbacks-returns-in-Some
+read_callbacks-returns-in-Some t c =
+    let found : option_map (λ v. view v.now) c.get.result ≡ get (codes "callbacks") (view c.args.tree.now) = search rules in
+    defaulted_read (map_of_docs (ref_or_doc callback callback_doc)) (codes "callbacks") (map_of (ref_or callback)) (view c.args.tree.now) c.get.result c.in-Some.member _ _ _ found c.in-Some.is c.read_callback_map.ensures
+
+pub read_callbacks-returns-in-None : goal.read_callbacks-returns-in-None
+read_callbacks-returns-in-None t c =
+    let gone : get (codes "callbacks") (view c.args.tree.now) ≡ None = search rules in
+    let none : c.new.result.entries ≡ [] = search rules in
+    map_absent (ref_or_doc callback callback_doc) (codes "callbacks") (ref_or callback) (view c.args.tree.now) c.new.result _ gone none
+
+pub read_additional_operations-read_operation_map-requires : goal.read_additional_operations-read_operation_map-requires
+read_additional_operations-read_operation_map-requires t c =
+    let found : option_map (λ v. view v.now) c.get.result ≡ get (codes "additionalOperations") (view c.args.tree.now) = search rules in
+    (omega (arith, member_fewer (codes "additionalOperations") (view c.args.tree.now) c.get.result c.in-Some.member found c.in-Some.is), tt)
+
+pub read_additional_operations-returns-in-Some : goal.read_additional_operations-returns-in-Some
+read_additional_operations-returns-in-Some t c =
+    let found : option_map (λ v. view v.now) c.get.result ≡ get (codes "additionalOperations") (view c.args.tree.now) = search rules in
+    defaulted_read (map_of_docs operation_doc) (codes "additionalOperations") (map_of (named operation_object)) (view c.args.tree.now) c.get.result c.in-Some.member _ _ _ found c.in-Some.is c.read_operation_map.ensures
+
+pub read_additional_operations-returns-in-None : goal.read_additional_operations-returns-in-None
+read_additional_operations-returns-in-None t c =
+    let gone : get (codes "additionalOperations") (view c.args.tree.now) ≡ None = search rules in
+    let none : c.new.result.entries ≡ [] = search rules in
+    map_absent operation_doc (codes "additionalOperations") (named operation_object) (view c.args.tree.now) c.new.result _ gone none
+
+pub read_method-read_operation-requires : goal.read_method-read_operation-requires
+read_method-read_operation-requires t c =
+    let found : option_map (λ v. view v.now) c.get.result ≡ get c.args.name.now (view c.args.tree.now) = search rules in
+    (omega (arith, member_fewer c.args.name.now (view c.args.tree.now) c.get.result c.in-Some.member found c.in-Some.is), tt)
+
+pub read_method-returns-then-is_null : goal.read_method-returns-then-is_null
+read_method-returns-then-is_null t c =
+    let found : option_map (λ v. view v.now) c.get.result ≡ get c.args.name.now (view c.args.tree.now) = search rules in
+    let none : is_null (view c.in-Some.member.now) ≡ true = search (rules, null_as) in
+    optional_null operation_doc c.args.name.now (named operation_object) (view c.args.tree.now) c.get.result c.in-Some.member _ found c.in-Some.is none
+
+pub read_method-returns-in_err-read_operation-in-Some : goal.read_method-returns-in_err-read_operation-in-Some
+read_method-returns-in_err-read_operation-in-Some t c =
+    let found : option_map (λ v. view v.now) c.get.result ≡ get c.args.name.now (view c.args.tree.now) = search rules in
+    let full : is_null (view c.in-Some.member.now) ≡ false = search (rules, null_as) in
+    optional_refused operation_doc operation_doc c.args.name.now (named operation_object) (view c.args.tree.now) c.get.result c.in-Some.member _ _ _ _ found c.in-Some.is full c.from_residual.ensures.1 c.in_err-read_operation-in-Some.ensures
+
+pub read_method-returns-in_ok-read_operation-in-Some : goal.read_method-returns-in_ok-read_operation-in-Some
+read_method-returns-in_ok-read_operation-in-Some t c =
+    let found : option_map (λ v. view v.now) c.get.result ≡ get c.args.name.now (view c.args.tree.now) = search rules in
+    let full : is_null (view c.in-Some.member.now) ≡ false = search (rules, null_as) in
+    optional_read operation_doc operation_doc c.args.name.now (named operation_object) (view c.args.tree.now) c.get.result c.in-Some.member _ _ _ _ found c.in-Some.is full refl c.in_ok-read_operation-in-Some.ensures
+
+pub read_method-returns-in-None : goal.read_method-returns-in-None
+read_method-returns-in-None t c =
+    let gone : get c.args.name.now (view c.args.tree.now) ≡ None = search rules in
+    optional_absent operation_doc c.args.name.now (named operation_object) (view c.args.tree.now) _ gone
+
+pub read_callback-returns-in_default : goal.read_callback-returns-in_default
+read_callback-returns-in_default t c =
+    let none : as_object (view c.args.tree.now) ≡ None = search rules in
+    refused_unread _ _ _ _ _ (map_none (ref_or (named path_item_object)) (view c.args.tree.now) none)
+
+pub read_callback-read_ref_or_path_item-requires : goal.read_callback-read_ref_or_path_item-requires
+read_callback-read_ref_or_path_item-requires t c =
+    let all : c.into_iter-key-iterator.result ≡ c.in-Some.members.now.entries = c.into_iter-key-iterator.ensures.into_iter_gives ∙ c.iter-key-items.ensures.rest in
+    let is : Some (members_view c.into_iter-key-iterator.result) ≡ as_object (view c.args.tree.now) = ap (λ vs. Some (members_view vs)) all ∙ c.in-Some.ensures in
+    (omega (arith, entry_fewer (ref_or (named path_item_object)) (ref_or_doc (named path_item_object) path_item_doc) _ _ _ _ _ (c.in-Some-2.key.now, c.in-Some-2.member.now) _ _ c.loop-key.invariant c.in-Some-2.ensures.steps is), tt)
+
+pub read_callback-loop-key-init : goal.read_callback-loop-key-init
+read_callback-loop-key-init t c = map_begun (ref_or (named path_item_object)) (ref_or_doc (named path_item_object) path_item_doc) _ _ _ (search rules)
+
+pub read_callback-loop-key-preserved : goal.read_callback-loop-key-preserved
+read_callback-loop-key-preserved t c =
+    let all : c.into_iter-key-iterator.result ≡ c.in-Some.members.now.entries = c.into_iter-key-iterator.ensures.into_iter_gives ∙ c.iter-key-items.ensures.rest in
+    let ordered = subst (λ r. IsStrictlySortedBy string_cmp (keys_of r)) (sym all) c.iter-key-items.ensures.ordered in
+    map_step (ref_or (named path_item_object)) (ref_or_doc (named path_item_object) path_item_doc) _ _ _ _ _ _ _ _ _ _ _ c.loop-key.invariant c.in-Some-2.ensures.steps ordered c.in_ok-name.ensures.cases c.in_ok-insert.ensures.entries c.in_ok-value.ensures
+
+pub read_callback-returns-in_err-name : goal.read_callback-returns-in_err-name
+read_callback-returns-in_err-name t c =
+    let all : c.into_iter-key-iterator.result ≡ c.in-Some.members.now.entries = c.into_iter-key-iterator.ensures.into_iter_gives ∙ c.iter-key-items.ensures.rest in
+    let is : Some (members_view c.into_iter-key-iterator.result) ≡ as_object (view c.args.tree.now) = ap (λ vs. Some (members_view vs)) all ∙ c.in-Some.ensures in
+    let within = map_within (ref_or (named path_item_object)) (ref_or_doc (named path_item_object) path_item_doc) _ _ _ _ _ _ c.loop-key.invariant is in
+    passes_refusal (map_of_docs (ref_or_doc (named path_item_object) path_item_doc)) _ Memory _ _ _ _ c.from_residual.ensures.1 tt within.0 within.1
+
+pub read_callback-returns-in_err-value : goal.read_callback-returns-in_err-value
+read_callback-returns-in_err-value t c =
+    let all : c.into_iter-key-iterator.result ≡ c.in-Some.members.now.entries = c.into_iter-key-iterator.ensures.into_iter_gives ∙ c.iter-key-items.ensures.rest in
+    let is : Some (members_view c.into_iter-key-iterator.result) ≡ as_object (view c.args.tree.now) = ap (λ vs. Some (members_view vs)) all ∙ c.in-Some.ensures in
+    map_refused (ref_or (named path_item_object)) (ref_or_doc (named path_item_object) path_item_doc) _ _ _ _ _ _ _ _ _ _ _ _ c.loop-key.invariant c.in-Some-2.ensures.steps is c.from_residual-in_err-value.ensures.1 c.in_err-value.ensures
+
+pub read_callback-returns-in_err-insert : goal.read_callback-returns-in_err-insert
+read_callback-returns-in_err-insert t c =
+    let all : c.into_iter-key-iterator.result ≡ c.in-Some.members.now.entries = c.into_iter-key-iterator.ensures.into_iter_gives ∙ c.iter-key-items.ensures.rest in
+    let is : Some (members_view c.into_iter-key-iterator.result) ≡ as_object (view c.args.tree.now) = ap (λ vs. Some (members_view vs)) all ∙ c.in-Some.ensures in
+    let within = map_within_next (ref_or (named path_item_object)) (ref_or_doc (named path_item_object) path_item_doc) _ _ _ _ _ _ _ _ _ _ c.loop-key.invariant c.in-Some-2.ensures.steps is c.in_ok-value.ensures in
+    passes_refusal (map_of_docs (ref_or_doc (named path_item_object) path_item_doc)) _ Memory _ _ _ _ c.from_residual-in_err-insert.ensures.1 tt within.0 within.1
+
+pub read_callback-returns : goal.read_callback-returns
+read_callback-returns t c =
+    let all : c.into_iter-key-iterator.result ≡ c.in-Some.members.now.entries = c.into_iter-key-iterator.ensures.into_iter_gives ∙ c.iter-key-items.ensures.rest in
+    let is : Some (members_view c.into_iter-key-iterator.result) ≡ as_object (view c.args.tree.now) = ap (λ vs. Some (members_view vs)) all ∙ c.in-Some.ensures in
+    map_read (ref_or (named path_item_object)) (ref_or_doc (named path_item_object) path_item_doc) _ _ _ _ _ _ c.loop-key.invariant c.in-None.ensures.steps.0 is
+
+pub read_callback_map-returns-in_default : goal.read_callback_map-returns-in_default
+read_callback_map-returns-in_default t c =
+    let none : as_object (view c.args.tree.now) ≡ None = search rules in
+    refused_unread _ _ _ _ _ (map_none (ref_or callback) (view c.args.tree.now) none)
+
+pub read_callback_map-read_ref_or_callback-requires : goal.read_callback_map-read_ref_or_callback-requires
+read_callback_map-read_ref_or_callback-requires t c =
+    let all : c.into_iter-key-iterator.result ≡ c.in-Some.members.now.entries = c.into_iter-key-iterator.ensures.into_iter_gives ∙ c.iter-key-items.ensures.rest in
+    let is : Some (members_view c.into_iter-key-iterator.result) ≡ as_object (view c.args.tree.now) = ap (λ vs. Some (members_view vs)) all ∙ c.in-Some.ensures in
+    (omega (arith, entry_fewer (ref_or callback) (ref_or_doc callback callback_doc) _ _ _ _ _ (c.in-Some-2.key.now, c.in-Some-2.member.now) _ _ c.loop-key.invariant c.in-Some-2.ensures.steps is), tt)
+
+pub read_callback_map-loop-key-init : goal.read_callback_map-loop-key-init
+read_callback_map-loop-key-init t c = map_begun (ref_or callback) (ref_or_doc callback callback_doc) _ _ _ (search rules)
+
+pub read_callback_map-loop-key-preserved : goal.read_callback_map-loop-key-preserved
+read_callback_map-loop-key-preserved t c =
+    let all : c.into_iter-key-iterator.result ≡ c.in-Some.members.now.entries = c.into_iter-key-iterator.ensures.into_iter_gives ∙ c.iter-key-items.ensures.rest in
+    let ordered = subst (λ r. IsStrictlySortedBy string_cmp (keys_of r)) (sym all) c.iter-key-items.ensures.ordered in
+    map_step (ref_or callback) (ref_or_doc callback callback_doc) _ _ _ _ _ _ _ _ _ _ _ c.loop-key.invariant c.in-Some-2.ensures.steps ordered c.in_ok-name.ensures.cases c.in_ok-insert.ensures.entries c.in_ok-value.ensures
+
+pub read_callback_map-returns-in_err-name : goal.read_callback_map-returns-in_err-name
+read_callback_map-returns-in_err-name t c =
+    let all : c.into_iter-key-iterator.result ≡ c.in-Some.members.now.entries = c.into_iter-key-iterator.ensures.into_iter_gives ∙ c.iter-key-items.ensures.rest in
+    let is : Some (members_view c.into_iter-key-iterator.result) ≡ as_object (view c.args.tree.now) = ap (λ vs. Some (members_view vs)) all ∙ c.in-Some.ensures in
+    let within = map_within (ref_or callback) (ref_or_doc callback callback_doc) _ _ _ _ _ _ c.loop-key.invariant is in
+    passes_refusal (map_of_docs (ref_or_doc callback callback_doc)) _ Memory _ _ _ _ c.from_residual.ensures.1 tt within.0 within.1
+
+pub read_callback_map-returns-in_err-value : goal.read_callback_map-returns-in_err-value
+read_callback_map-returns-in_err-value t c =
+    let all : c.into_iter-key-iterator.result ≡ c.in-Some.members.now.entries = c.into_iter-key-iterator.ensures.into_iter_gives ∙ c.iter-key-items.ensures.rest in
+    let is : Some (members_view c.into_iter-key-iterator.result) ≡ as_object (view c.args.tree.now) = ap (λ vs. Some (members_view vs)) all ∙ c.in-Some.ensures in
+    map_refused (ref_or callback) (ref_or_doc callback callback_doc) _ _ _ _ _ _ _ _ _ _ _ _ c.loop-key.invariant c.in-Some-2.ensures.steps is c.from_residual-in_err-value.ensures.1 c.in_err-value.ensures
+
+pub read_callback_map-returns-in_err-insert : goal.read_callback_map-returns-in_err-insert
+read_callback_map-returns-in_err-insert t c =
+    let all : c.into_iter-key-iterator.result ≡ c.in-Some.members.now.entries = c.into_iter-key-iterator.ensures.into_iter_gives ∙ c.iter-key-items.ensures.rest in
+    let is : Some (members_view c.into_iter-key-iterator.result) ≡ as_object (view c.args.tree.now) = ap (λ vs. Some (members_view vs)) all ∙ c.in-Some.ensures in
+    let within = map_within_next (ref_or callback) (ref_or_doc callback callback_doc) _ _ _ _ _ _ _ _ _ _ c.loop-key.invariant c.in-Some-2.ensures.steps is c.in_ok-value.ensures in
+    passes_refusal (map_of_docs (ref_or_doc callback callback_doc)) _ Memory _ _ _ _ c.from_residual-in_err-insert.ensures.1 tt within.0 within.1
+
+pub read_callback_map-returns : goal.read_callback_map-returns
+read_callback_map-returns t c =
+    let all : c.into_iter-key-iterator.result ≡ c.in-Some.members.now.entries = c.into_iter-key-iterator.ensures.into_iter_gives ∙ c.iter-key-items.ensures.rest in
+    let is : Some (members_view c.into_iter-key-iterator.result) ≡ as_object (view c.args.tree.now) = ap (λ vs. Some (members_view vs)) all ∙ c.in-Some.ensures in
+    map_read (ref_or callback) (ref_or_doc callback callback_doc) _ _ _ _ _ _ c.loop-key.invariant c.in-None.ensures.steps.0 is
+
+pub read_operation_map-returns-in_default : goal.read_operation_map-returns-in_default
+read_operation_map-returns-in_default t c =
+    let none : as_object (view c.args.tree.now) ≡ None = search rules in
+    refused_unread _ _ _ _ _ (map_none (named operation_object) (view c.args.tree.now) none)
+
+pub read_operation_map-read_operation-requires : goal.read_operation_map-read_operation-requires
+read_operation_map-read_operation-requires t c =
+    let all : c.into_iter-key-iterator.result ≡ c.in-Some.members.now.entries = c.into_iter-key-iterator.ensures.into_iter_gives ∙ c.iter-key-items.ensures.rest in
+    let is : Some (members_view c.into_iter-key-iterator.result) ≡ as_object (view c.args.tree.now) = ap (λ vs. Some (members_view vs)) all ∙ c.in-Some.ensures in
+    (omega (arith, entry_fewer (named operation_object) operation_doc _ _ _ _ _ (c.in-Some-2.key.now, c.in-Some-2.member.now) _ _ c.loop-key.invariant c.in-Some-2.ensures.steps is), tt)
+
+pub read_operation_map-loop-key-init : goal.read_operation_map-loop-key-init
+read_operation_map-loop-key-init t c = map_begun (named operation_object) operation_doc _ _ _ (search rules)
+
+pub read_operation_map-loop-key-preserved : goal.read_operation_map-loop-key-preserved
+read_operation_map-loop-key-preserved t c =
+    let all : c.into_iter-key-iterator.result ≡ c.in-Some.members.now.entries = c.into_iter-key-iterator.ensures.into_iter_gives ∙ c.iter-key-items.ensures.rest in
+    let ordered = subst (λ r. IsStrictlySortedBy string_cmp (keys_of r)) (sym all) c.iter-key-items.ensures.ordered in
+    map_step (named operation_object) operation_doc _ _ _ _ _ _ _ _ _ _ _ c.loop-key.invariant c.in-Some-2.ensures.steps ordered c.in_ok-name.ensures.cases c.in_ok-insert.ensures.entries c.in_ok-value.ensures
+
+pub read_operation_map-returns-in_err-name : goal.read_operation_map-returns-in_err-name
+read_operation_map-returns-in_err-name t c =
+    let all : c.into_iter-key-iterator.result ≡ c.in-Some.members.now.entries = c.into_iter-key-iterator.ensures.into_iter_gives ∙ c.iter-key-items.ensures.rest in
+    let is : Some (members_view c.into_iter-key-iterator.result) ≡ as_object (view c.args.tree.now) = ap (λ vs. Some (members_view vs)) all ∙ c.in-Some.ensures in
+    let within = map_within (named operation_object) operation_doc _ _ _ _ _ _ c.loop-key.invariant is in
+    passes_refusal (map_of_docs operation_doc) _ Memory _ _ _ _ c.from_residual.ensures.1 tt within.0 within.1
+
+pub read_operation_map-returns-in_err-value : goal.read_operation_map-returns-in_err-value
+read_operation_map-returns-in_err-value t c =
+    let all : c.into_iter-key-iterator.result ≡ c.in-Some.members.now.entries = c.into_iter-key-iterator.ensures.into_iter_gives ∙ c.iter-key-items.ensures.rest in
+    let is : Some (members_view c.into_iter-key-iterator.result) ≡ as_object (view c.args.tree.now) = ap (λ vs. Some (members_view vs)) all ∙ c.in-Some.ensures in
+    map_refused (named operation_object) operation_doc _ _ _ _ _ _ _ _ _ _ _ _ c.loop-key.invariant c.in-Some-2.ensures.steps is c.from_residual-in_err-value.ensures.1 c.in_err-value.ensures
+
+pub read_operation_map-returns-in_err-insert : goal.read_operation_map-returns-in_err-insert
+read_operation_map-returns-in_err-insert t c =
+    let all : c.into_iter-key-iterator.result ≡ c.in-Some.members.now.entries = c.into_iter-key-iterator.ensures.into_iter_gives ∙ c.iter-key-items.ensures.rest in
+    let is : Some (members_view c.into_iter-key-iterator.result) ≡ as_object (view c.args.tree.now) = ap (λ vs. Some (members_view vs)) all ∙ c.in-Some.ensures in
+    let within = map_within_next (named operation_object) operation_doc _ _ _ _ _ _ _ _ _ _ c.loop-key.invariant c.in-Some-2.ensures.steps is c.in_ok-value.ensures in
+    passes_refusal (map_of_docs operation_doc) _ Memory _ _ _ _ c.from_residual-in_err-insert.ensures.1 tt within.0 within.1
+
+pub read_operation_map-returns : goal.read_operation_map-returns
+read_operation_map-returns t c =
+    let all : c.into_iter-key-iterator.result ≡ c.in-Some.members.now.entries = c.into_iter-key-iterator.ensures.into_iter_gives ∙ c.iter-key-items.ensures.rest in
+    let is : Some (members_view c.into_iter-key-iterator.result) ≡ as_object (view c.args.tree.now) = ap (λ vs. Some (members_view vs)) all ∙ c.in-Some.ensures in
+    map_read (named operation_object) operation_doc _ _ _ _ _ _ c.loop-key.invariant c.in-None.ensures.steps.0 is
+
+pub read_ref_or_path_item-returns-in_err-reference : goal.read_ref_or_path_item-returns-in_err-reference
+read_ref_or_path_item-returns-in_err-reference t c = passes_memory _ c.read_plain.result _ _ _ _ _ _ c.from_residual.ensures.1 (sym c.in_err-reference.ensures) (omega arith) (omega arith)
+
+pub read_ref_or_path_item-returns-in-Some : goal.read_ref_or_path_item-returns-in-Some
+read_ref_or_path_item-returns-in-Some t c =
+    let r = c.in-Some.reference in
+    let this = reads_value reference_doc _ c.read_plain.result r _ _ _ c.read_plain.ensures (fits_as _ r (sym c.in_ok-reference.ensures ∙ ap Ok c.in-Some.is)) in
+    record {
+      ok = ref_reads (ref_or (named path_item_object)) (named path_item_object) _ _ refl this.ok;
+      err = tt;
+      grows = omega arith;
+      at_most = omega arith;
+      at_least = λ below. omega (arith, reference_uncounted (named path_item_object) (reference_doc r) refl);
+    }
+
+pub read_ref_or_path_item-returns-in_err-read_path_item : goal.read_ref_or_path_item-returns-in_err-read_path_item
+read_ref_or_path_item-returns-in_err-read_path_item t c =
+    let unfit : fitting c.read_plain.result ≡ Ok None = search rules in
+    let gone = fits_not reference_doc (read (named reference_object) (view c.args.tree.now)) c.read_plain.result _ _ _ c.read_plain.ensures unfit in
+    passes_reads _ _ _ _ _ _ _ _ _ _ _ c.from_residual-in_err-read_path_item.ensures.1 c.in_err-read_path_item.ensures (λ h. own_none (named path_item_object) _ gone h) (omega arith) (omega arith)
+
+pub read_ref_or_path_item-returns : goal.read_ref_or_path_item-returns
+read_ref_or_path_item-returns t c =
+    let unfit : fitting c.read_plain.result ≡ Ok None = search rules in
+    let gone = fits_not reference_doc (read (named reference_object) (view c.args.tree.now)) c.read_plain.result _ _ _ c.read_plain.ensures unfit in
+    let own = c.in_ok-read_path_item.ensures in
+    record {
+      ok = own_reads (ref_or (named path_item_object)) (named path_item_object) _ _ refl gone own.ok;
+      err = tt;
+      grows = own.grows;
+      at_most = own.at_most;
+      at_least = λ below. omega (arith, own.at_least below, own_places (path_item_doc c.in_ok-read_path_item.field-0));
+    }
+
+pub read_ref_or_callback-returns-in_err-reference : goal.read_ref_or_callback-returns-in_err-reference
+read_ref_or_callback-returns-in_err-reference t c = passes_memory _ c.read_plain.result _ _ _ _ _ _ c.from_residual.ensures.1 (sym c.in_err-reference.ensures) (omega arith) (omega arith)
+
+pub read_ref_or_callback-returns-in-Some : goal.read_ref_or_callback-returns-in-Some
+read_ref_or_callback-returns-in-Some t c =
+    let r = c.in-Some.reference in
+    let this = reads_value reference_doc _ c.read_plain.result r _ _ _ c.read_plain.ensures (fits_as _ r (sym c.in_ok-reference.ensures ∙ ap Ok c.in-Some.is)) in
+    record {
+      ok = ref_reads (ref_or callback) callback _ _ refl this.ok;
+      err = tt;
+      grows = omega arith;
+      at_most = omega arith;
+      at_least = λ below. omega (arith, reference_uncounted callback (reference_doc r) refl);
+    }
+
+pub read_ref_or_callback-returns-in_err-read_callback : goal.read_ref_or_callback-returns-in_err-read_callback
+read_ref_or_callback-returns-in_err-read_callback t c =
+    let unfit : fitting c.read_plain.result ≡ Ok None = search rules in
+    let gone = fits_not reference_doc (read (named reference_object) (view c.args.tree.now)) c.read_plain.result _ _ _ c.read_plain.ensures unfit in
+    passes_reads _ _ _ _ _ _ _ _ _ _ _ c.from_residual-in_err-read_callback.ensures.1 c.in_err-read_callback.ensures (λ h. own_none callback _ gone h) (omega arith) (omega arith)
+
+pub read_ref_or_callback-returns : goal.read_ref_or_callback-returns
+read_ref_or_callback-returns t c =
+    let unfit : fitting c.read_plain.result ≡ Ok None = search rules in
+    let gone = fits_not reference_doc (read (named reference_object) (view c.args.tree.now)) c.read_plain.result _ _ _ c.read_plain.ensures unfit in
+    let own = c.in_ok-read_callback.ensures in
+    record {
+      ok = own_reads (ref_or callback) callback _ _ refl gone own.ok;
+      err = tt;
+      grows = own.grows;
+      at_most = own.at_most;
+      at_least = λ below. omega (arith, own.at_least below, own_places (callback_doc c.in_ok-read_callback.field-0));
+    }
+
+pub read_operation-returns-in_err-callbacks : goal.read_operation-returns-in_err-callbacks
+read_operation-returns-in_err-callbacks t c =
+    passes_reads _ _ _ _ _ _ _ _ _ _ _ c.from_residual.ensures.1 c.in_err-callbacks.ensures
+    (λ h. table_refused operation_object _ (join-later description_rows _ _ (join-later message_rows _ _ (fields-first _ _ _ h))))
+    (omega arith)
+    (omega (arith, callbacks_fewer (view c.args.tree.now)))
+
+pub read_operation-returns : goal.read_operation-returns
+read_operation-returns t c = c.assemble_operation.ensures _ c.in_ok-callbacks.ensures
+
+pub read_path_item-returns-in_err-item : goal.read_path_item-returns-in_err-item
+read_path_item-returns-in_err-item t c =
+    passes_reads _ _ _ _ _ _ _ _ _ _ _ c.from_residual.ensures.1 c.in_err-item.ensures
+    (λ h. table_refused path_item_object _ (join-later base_rows operations_rows _ (no_fields_of_part operations_rows _ h)))
+    (omega arith)
+    (omega (arith, parts_fewer path_item_object base_rows operations_rows (view c.args.tree.now) refl))
+
+pub read_path_item-returns : goal.read_path_item-returns
+read_path_item-returns t c = c.assemble_path_item.ensures _ c.in_ok-item.ensures
+
+pub read_operations-returns-in_err-read_method : goal.read_operations-returns-in_err-read_method
+read_operations-returns-in_err-read_method t c =
+    passes_reads _ _ _ _ _ _ _ _ _ _ _ c.from_residual.ensures.1 c.in_err-read_method.ensures
+    (λ h. refused_among [] (method_row (codes "get")) (drop 1 operations_rows) _ h)
+    (omega arith)
+    (omega (arith, operations_values (view c.args.tree.now)))
+
+pub read_operations-returns-in_err-read_method-2 : goal.read_operations-returns-in_err-read_method-2
+read_operations-returns-in_err-read_method-2 t c =
+    passes_reads _ _ _ _ _ _ _ _ _ _ _ c.from_residual-in_err-read_method-2.ensures.1 c.in_err-read_method-2.ensures
+    (λ h. refused_among (take 1 operations_rows) (method_row (codes "put")) (drop 2 operations_rows) _ h)
+    (omega (arith, c.in_ok-read_method.ensures.grows))
+    (omega (arith, operations_values (view c.args.tree.now), c.in_ok-read_method.ensures.at_most))
+
+pub read_operations-returns-in_err-read_method-3 : goal.read_operations-returns-in_err-read_method-3
+read_operations-returns-in_err-read_method-3 t c =
+    passes_reads _ _ _ _ _ _ _ _ _ _ _ c.from_residual-in_err-read_method-3.ensures.1 c.in_err-read_method-3.ensures
+    (λ h. refused_among (take 2 operations_rows) (method_row (codes "post")) (drop 3 operations_rows) _ h)
+    (omega (arith, c.in_ok-read_method.ensures.grows, c.in_ok-read_method-2.ensures.grows))
+    (omega (arith, operations_values (view c.args.tree.now), c.in_ok-read_method.ensures.at_most, c.in_ok-read_method-2.ensures.at_most))
+
+pub read_operations-returns-in_err-read_method-4 : goal.read_operations-returns-in_err-read_method-4
+read_operations-returns-in_err-read_method-4 t c =
+    passes_reads _ _ _ _ _ _ _ _ _ _ _ c.from_residual-in_err-read_method-4.ensures.1 c.in_err-read_method-4.ensures
+    (λ h. refused_among (take 3 operations_rows) (method_row (codes "delete")) (drop 4 operations_rows) _ h)
+    (omega (arith, c.in_ok-read_method.ensures.grows, c.in_ok-read_method-2.ensures.grows, c.in_ok-read_method-3.ensures.grows))
+    (omega (arith, operations_values (view c.args.tree.now), c.in_ok-read_method.ensures.at_most, c.in_ok-read_method-2.ensures.at_most, c.in_ok-read_method-3.ensures.at_most))
+
+pub read_operations-returns-in_err-read_method-5 : goal.read_operations-returns-in_err-read_method-5
+read_operations-returns-in_err-read_method-5 t c =
+    passes_reads _ _ _ _ _ _ _ _ _ _ _ c.from_residual-in_err-read_method-5.ensures.1 c.in_err-read_method-5.ensures
+    (λ h. refused_among (take 4 operations_rows) (method_row (codes "options")) (drop 5 operations_rows) _ h)
+    (omega (arith, c.in_ok-read_method.ensures.grows, c.in_ok-read_method-2.ensures.grows, c.in_ok-read_method-3.ensures.grows, c.in_ok-read_method-4.ensures.grows))
+    (omega (arith, operations_values (view c.args.tree.now), c.in_ok-read_method.ensures.at_most, c.in_ok-read_method-2.ensures.at_most, c.in_ok-read_method-3.ensures.at_most, c.in_ok-read_method-4.ensures.at_most))
+
+pub read_operations-returns-in_err-read_method-6 : goal.read_operations-returns-in_err-read_method-6
+read_operations-returns-in_err-read_method-6 t c =
+    passes_reads _ _ _ _ _ _ _ _ _ _ _ c.from_residual-in_err-read_method-6.ensures.1 c.in_err-read_method-6.ensures
+    (λ h. refused_among (take 5 operations_rows) (method_row (codes "head")) (drop 6 operations_rows) _ h)
+    (omega (arith, c.in_ok-read_method.ensures.grows, c.in_ok-read_method-2.ensures.grows, c.in_ok-read_method-3.ensures.grows, c.in_ok-read_method-4.ensures.grows, c.in_ok-read_method-5.ensures.grows))
+    (omega (arith, operations_values (view c.args.tree.now), c.in_ok-read_method.ensures.at_most, c.in_ok-read_method-2.ensures.at_most, c.in_ok-read_method-3.ensures.at_most, c.in_ok-read_method-4.ensures.at_most, c.in_ok-read_method-5.ensures.at_most))
+
+pub read_operations-returns-in_err-read_method-7 : goal.read_operations-returns-in_err-read_method-7
+read_operations-returns-in_err-read_method-7 t c =
+    passes_reads _ _ _ _ _ _ _ _ _ _ _ c.from_residual-in_err-read_method-7.ensures.1 c.in_err-read_method-7.ensures
+    (λ h. refused_among (take 6 operations_rows) (method_row (codes "patch")) (drop 7 operations_rows) _ h)
+    (omega (arith, c.in_ok-read_method.ensures.grows, c.in_ok-read_method-2.ensures.grows, c.in_ok-read_method-3.ensures.grows, c.in_ok-read_method-4.ensures.grows, c.in_ok-read_method-5.ensures.grows, c.in_ok-read_method-6.ensures.grows))
+    (omega (arith, operations_values (view c.args.tree.now), c.in_ok-read_method.ensures.at_most, c.in_ok-read_method-2.ensures.at_most, c.in_ok-read_method-3.ensures.at_most, c.in_ok-read_method-4.ensures.at_most, c.in_ok-read_method-5.ensures.at_most, c.in_ok-read_method-6.ensures.at_most))
+
+pub read_operations-returns-in_err-read_method-8 : goal.read_operations-returns-in_err-read_method-8
+read_operations-returns-in_err-read_method-8 t c =
+    passes_reads _ _ _ _ _ _ _ _ _ _ _ c.from_residual-in_err-read_method-8.ensures.1 c.in_err-read_method-8.ensures
+    (λ h. refused_among (take 7 operations_rows) (method_row (codes "trace")) (drop 8 operations_rows) _ h)
+    (omega (arith, c.in_ok-read_method.ensures.grows, c.in_ok-read_method-2.ensures.grows, c.in_ok-read_method-3.ensures.grows, c.in_ok-read_method-4.ensures.grows, c.in_ok-read_method-5.ensures.grows, c.in_ok-read_method-6.ensures.grows, c.in_ok-read_method-7.ensures.grows))
+    (omega (arith, operations_values (view c.args.tree.now), c.in_ok-read_method.ensures.at_most, c.in_ok-read_method-2.ensures.at_most, c.in_ok-read_method-3.ensures.at_most, c.in_ok-read_method-4.ensures.at_most, c.in_ok-read_method-5.ensures.at_most, c.in_ok-read_method-6.ensures.at_most, c.in_ok-read_method-7.ensures.at_most))
+
+pub read_operations-returns-in_err-read_method-9 : goal.read_operations-returns-in_err-read_method-9
+read_operations-returns-in_err-read_method-9 t c =
+    passes_reads _ _ _ _ _ _ _ _ _ _ _ c.from_residual-in_err-read_method-9.ensures.1 c.in_err-read_method-9.ensures
+    (λ h. refused_among (take 8 operations_rows) (method_row (codes "query")) (drop 9 operations_rows) _ h)
+    (omega (arith, c.in_ok-read_method.ensures.grows, c.in_ok-read_method-2.ensures.grows, c.in_ok-read_method-3.ensures.grows, c.in_ok-read_method-4.ensures.grows, c.in_ok-read_method-5.ensures.grows, c.in_ok-read_method-6.ensures.grows, c.in_ok-read_method-7.ensures.grows, c.in_ok-read_method-8.ensures.grows))
+    (omega (arith, operations_values (view c.args.tree.now), c.in_ok-read_method.ensures.at_most, c.in_ok-read_method-2.ensures.at_most, c.in_ok-read_method-3.ensures.at_most, c.in_ok-read_method-4.ensures.at_most, c.in_ok-read_method-5.ensures.at_most, c.in_ok-read_method-6.ensures.at_most, c.in_ok-read_method-7.ensures.at_most, c.in_ok-read_method-8.ensures.at_most))
+
+pub read_operations-returns-in_err-read_additional_operations : goal.read_operations-returns-in_err-read_additional_operations
+read_operations-returns-in_err-read_additional_operations t c =
+    passes_reads _ _ _ _ _ _ _ _ _ _ _ c.from_residual-in_err-read_additional_operations.ensures.1 c.in_err-read_additional_operations.ensures
+    (λ h. refused_among (take 9 operations_rows) additional_row [] _ h)
+    (omega (arith, c.in_ok-read_method.ensures.grows, c.in_ok-read_method-2.ensures.grows, c.in_ok-read_method-3.ensures.grows, c.in_ok-read_method-4.ensures.grows, c.in_ok-read_method-5.ensures.grows, c.in_ok-read_method-6.ensures.grows, c.in_ok-read_method-7.ensures.grows, c.in_ok-read_method-8.ensures.grows, c.in_ok-read_method-9.ensures.grows))
+    (omega (arith, operations_values (view c.args.tree.now), c.in_ok-read_method.ensures.at_most, c.in_ok-read_method-2.ensures.at_most, c.in_ok-read_method-3.ensures.at_most, c.in_ok-read_method-4.ensures.at_most, c.in_ok-read_method-5.ensures.at_most, c.in_ok-read_method-6.ensures.at_most, c.in_ok-read_method-7.ensures.at_most, c.in_ok-read_method-8.ensures.at_most, c.in_ok-read_method-9.ensures.at_most))
+
+pub read_operations-returns : goal.read_operations-returns
+read_operations-returns t c =
+    let all = operations_read (view c.args.tree.now) _ _ _ _ _ _ _ _ _ _ _ _ _ _ _ _ _ _ _ _ _
+    c.in_ok-read_method.ensures
+    c.in_ok-read_method-2.ensures
+    c.in_ok-read_method-3.ensures
+    c.in_ok-read_method-4.ensures
+    c.in_ok-read_method-5.ensures
+    c.in_ok-read_method-6.ensures
+    c.in_ok-read_method-7.ensures
+    c.in_ok-read_method-8.ensures
+    c.in_ok-read_method-9.ensures
+    c.in_ok-read_additional_operations.ensures in
+    reads_as list_doc (λ i. list_doc (operations_of operation_doc (out-PathItem i))) _ _ _ _ _ _ (ap (λ i. list_doc (operations_of operation_doc i)) (sym (out-roll-PathItem _))) all

@@ -1,0 +1,10 @@
+pub mod Builders
+pub mod Docs
+pub mod Folds
+pub mod ItemMembers
+pub mod Layers
+pub mod Lists
+pub mod Methods
+pub mod OfKind
+pub mod Parts
+pub mod PathItem

@@ -1,0 +1,19 @@
+//! Operations and path items, which hold each other through callbacks: the module `path` of the original crate but for the paths.
+#![tactic(auto)]
+
+mod assemble;
+mod copy;
+mod lists;
+pub mod methods;
+pub mod operation;
+pub mod path_item;
+mod print;
+mod read;
+mod rows;
+pub mod trees;
+mod types;
+mod write;
+
+pub use operation::{Callback, Operation, OperationBuilder};
+pub use path_item::{PathItem, PathItemBuilder};
+pub use trees::{read_callback, read_operation_map, read_ref_or_callback};

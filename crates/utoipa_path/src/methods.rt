@@ -1,0 +1,96 @@
+//! The operations of a path item by their HTTP methods.
+ghost use Rattle.std.specs.Prelude.{◌≡◌, Some, option_map};
+ghost use Rattle.std.specs.Option.{option_or};
+ghost use Rattle.utoipa_leaf.specs.declared.path.HttpMethod.{HttpMethod};
+ghost use Rattle.utoipa_path.specs.Methods.{operation_at, with_operation, without_methods, replaced, filled};
+ghost use Rattle.utoipa_path.specs.declared.types.PathItem.{out-PathItem};
+
+use crate::path_item::empty_path_item;
+use crate::types::{Operation, PathItem};
+use std::alloc::Global;
+use std::mem;
+use utoipa_leaf::path::HttpMethod;
+
+/// The operation of a method, where the path item has one.
+pub fn operation_of(item: &PathItem, method: HttpMethod) -> Option<&Operation>
+    ensures { option_map (λ o. o.now) result ≡ operation_at method (out-PathItem item.now) }
+{
+    match method {
+        HttpMethod::Get => item.get.as_ref(),
+        HttpMethod::Post => item.post.as_ref(),
+        HttpMethod::Put => item.put.as_ref(),
+        HttpMethod::Delete => item.delete.as_ref(),
+        HttpMethod::Options => item.options.as_ref(),
+        HttpMethod::Head => item.head.as_ref(),
+        HttpMethod::Patch => item.patch.as_ref(),
+        HttpMethod::Trace => item.trace.as_ref(),
+    }
+}
+
+/// Sets the operation of a method, in place of an earlier one.
+pub(crate) fn set_operation(item: &mut PathItem, method: HttpMethod, operation: Operation)
+    ensures { out-PathItem item.new ≡ with_operation method operation (out-PathItem item.old) }
+{
+    match method {
+        HttpMethod::Get => set(&mut item.get, operation),
+        HttpMethod::Post => set(&mut item.post, operation),
+        HttpMethod::Put => set(&mut item.put, operation),
+        HttpMethod::Delete => set(&mut item.delete, operation),
+        HttpMethod::Options => set(&mut item.options, operation),
+        HttpMethod::Head => set(&mut item.head, operation),
+        HttpMethod::Patch => set(&mut item.patch, operation),
+        HttpMethod::Trace => set(&mut item.trace, operation),
+    }
+}
+
+/// Takes the operations of another item that stand at methods of [`HttpMethod`], in place of earlier ones. All else stays as it is.
+/// Takes no memory.
+pub fn take_operations(item: &mut PathItem, alloc: Global, other: PathItem)
+    ensures taken { (m : HttpMethod) → operation_at m (out-PathItem item.new) ≡ option_or (operation_at m (out-PathItem other)) (operation_at m (out-PathItem item.old)) }
+    ensures rest { without_methods (out-PathItem item.new) ≡ without_methods (out-PathItem item.old) }
+{
+    let own = mem::replace(item, empty_path_item(alloc));
+    drop(mem::replace(item, with_operations_of(own, other)));
+}
+
+/// The item, with the operations of another in place of its own.
+fn with_operations_of(item: PathItem, other: PathItem) -> PathItem
+    ensures { out-PathItem result ≡ replaced (out-PathItem item) (out-PathItem other) }
+{
+    PathItem {
+        get: other.get.or(item.get),
+        put: other.put.or(item.put),
+        post: other.post.or(item.post),
+        delete: other.delete.or(item.delete),
+        options: other.options.or(item.options),
+        head: other.head.or(item.head),
+        patch: other.patch.or(item.patch),
+        trace: other.trace.or(item.trace),
+        ..item
+    }
+}
+
+/// The item, with the operations of another where it has none; its additional operations stay.
+pub(crate) fn with_missing_of(item: PathItem, other: PathItem) -> PathItem
+    ensures { out-PathItem result ≡ filled (out-PathItem item) (out-PathItem other) }
+{
+    PathItem {
+        get: item.get.or(other.get),
+        put: item.put.or(other.put),
+        post: item.post.or(other.post),
+        delete: item.delete.or(other.delete),
+        options: item.options.or(other.options),
+        head: item.head.or(other.head),
+        patch: item.patch.or(other.patch),
+        trace: item.trace.or(other.trace),
+        query: item.query.or(other.query),
+        ..item
+    }
+}
+
+// An assignment would drop the old operation where it stands, for which the check writes no proof.
+fn set(field: &mut Option<Operation>, operation: Operation)
+    ensures { field.new ≡ Some operation }
+{
+    drop(mem::replace(field, Some(operation)));
+}
