@@ -1,11 +1,12 @@
 #!/usr/bin/env python3
-"""Finds the least stack in which schemas, encodings and headers as deep as a text can be are read, copied, written and dropped.
+"""Finds the least stack in which schemas, encodings, headers and callbacks as deep as a text can be are read, copied, written and dropped.
 
 usage: bench/stack.py      after `rt run < stdin` in crates/utoipa_cases
 
 A text nests 127 objects and lists. Each input nests schemas so deep in one of the nine members that hold schemas, encodings in one of
-the three that hold encodings, or headers in encodings in contents of headers. The command `utoipa_doc schema` reads, writes and drops a
-schema; the cases `read TYPE` of `utoipa_cases` copy too. Each figure is in KiB, to the next 4; the default stack has 8192.
+the three that hold encodings, headers in encodings in contents of headers, or operations in callbacks of operations. The command
+`utoipa_doc schema` reads, writes and drops a schema; the cases `read TYPE` of `utoipa_cases` copy too. The case `callbacks` builds
+operations in more callbacks than a text can nest. Each figure is in KiB, to the next 4; the default stack has 8192.
 """
 import os
 import resource
@@ -29,13 +30,17 @@ MEMBERS = (
     ("anyOf", '{"anyOf":[', "]}", 63),
 )
 
-# The same of values that the command does not read, each with its type.
+# The same of values that the command does not read, each with its type, and what is innermost.
 HELD = (
-    ("Encoding", "itemEncoding", '{"itemEncoding":', "}", 126),
-    ("Encoding", "encoding", '{"encoding":{"a":', "}}", 63),
-    ("Encoding", "prefixEncoding", '{"prefixEncoding":[', "]}", 63),
-    ("Header", "content", '{"content":{"a":{"encoding":{"b":{"headers":{"c":', "}}}}}}", 21),
+    ("Encoding", "itemEncoding", '{"itemEncoding":', "}", 126, "{}"),
+    ("Encoding", "encoding", '{"encoding":{"a":', "}}", 63, "{}"),
+    ("Encoding", "prefixEncoding", '{"prefixEncoding":[', "]}", 63, "{}"),
+    ("Header", "content", '{"content":{"a":{"encoding":{"b":{"headers":{"c":', "}}}}}}", 21, "{}"),
+    ("Operation", "callbacks", '{"callbacks":{"c":{"e":{"get":', '}}},"responses":{}}', 31, '{"responses":{}}'),
 )
+
+# How many callbacks, one in the other, are built.
+BUILT = (31, 127)
 
 
 def limited(kib):
@@ -79,9 +84,13 @@ def main():
         text = (begin * levels + "{}" + end * levels + "\n").encode()
         command = least_stack(lambda kib: answers([COMMAND, "schema"], text, text, kib))
         print("| `%s` | %d | %d | %d |" % (name, levels, command, case_stack("Schema", text)), flush=True)
-    for type, name, begin, end, levels in HELD:
-        text = (begin * levels + "{}" + end * levels + "\n").encode()
+    for type, name, begin, end, levels, innermost in HELD:
+        text = (begin * levels + innermost + end * levels + "\n").encode()
         print("| %s, `%s` | %d | | %d |" % (type, name, levels, case_stack(type, text)), flush=True)
+    for levels in BUILT:
+        asked = b"callbacks\t%d\n" % levels
+        stack = least_stack(lambda kib: answers([CASES], asked, b"true\n", kib))
+        print("| Operation, `callbacks`, built | %d | | %d |" % (levels, stack), flush=True)
 
 
 if __name__ == "__main__":

@@ -108,8 +108,8 @@ def words_of(text):
 
 # The types that are built and read by a table of their own. MutualTls serves a variant of SecurityScheme.
 SWEPT = """Ref Info Contact License ExternalDocs Server ServerVariable Tag Xml Example Content Encoding Header Link RequestBody
-    Response Parameter Object Array OneOf AllOf AnyOf Discriminator ApiKeyValue Http OpenIdConnect MutualTls OAuth2 Scopes Implicit
-    Password ClientCredentials AuthorizationCode DeviceAuthorization""".split()
+    Response Parameter Operation PathItem Object Array OneOf AllOf AnyOf Discriminator ApiKeyValue Http OpenIdConnect MutualTls OAuth2
+    Scopes Implicit Password ClientCredentials AuthorizationCode DeviceAuthorization""".split()
 
 WITHOUT_EXTENSIONS = ("Ref", "Xml", "Scopes")
 
@@ -127,6 +127,9 @@ PLAIN = {
     "ArrayItems": (False, 5, None),
     "AdditionalProperties": ({"$ref": "#/a"}, 5, None),
     "flows": ({"k": {"scopes": {}, "tokenUrl": "t"}}, 5, "kind"),
+    "Responses": ({"200": {"description": "d"}}, 5, "kind"),
+    "Callback": ({"e": {"summary": "s"}}, 5, "kind"),
+    "SecurityRequirement": ({"k": ["s"]}, 5, "kind"),
 }
 
 
@@ -234,7 +237,7 @@ class Sweep:
     def add_empty(self, member, mark, kind, others):
         """What is empty is written, but at a defaulted member."""
         shape = kind.split(" ")[0]
-        empty = {"text": "", "flag": False, "list": [], "map": {}, "ordered": {}, "flows": {}}.get(shape)
+        empty = {"text": "", "flag": False, "list": [], "map": {}, "ordered": {}, "flows": {}, "Responses": {}}.get(shape)
         if empty is not None:
             tree = {**others, member: empty}
             self.is_read(tree, others if mark == "defaulted" else tree)

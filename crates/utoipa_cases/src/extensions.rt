@@ -16,6 +16,8 @@ use utoipa_media::encoding::Encoding;
 use utoipa_media::header::Header;
 use utoipa_media::link::Link;
 use utoipa_operation_parts::{Parameter, RequestBody, Response, Responses};
+use utoipa_path::{Operation, PathItem};
+use utoipa_paths::Paths;
 use utoipa_schema::{AllOf, AnyOf, Array, Object, OneOf, Schema};
 use utoipa_schema_parts::Discriminator;
 use utoipa_security::security::{
@@ -80,6 +82,20 @@ fn of_media(
         "Response" => with_extensions::<Response>(alloc, tree, extensions),
         "Responses" => with_extensions::<Responses>(alloc, tree, extensions),
         "Parameter" => with_extensions::<Parameter>(alloc, tree, extensions),
+        _ => of_paths(alloc, name, tree, extensions),
+    }
+}
+
+fn of_paths(
+    alloc: Global,
+    name: &str,
+    tree: &Value,
+    extensions: Extensions,
+) -> Result<String, AllocError> {
+    match name {
+        "Operation" => with_extensions::<Operation>(alloc, tree, extensions),
+        "PathItem" => with_extensions::<PathItem>(alloc, tree, extensions),
+        "Paths" => with_extensions::<Paths>(alloc, tree, extensions),
         _ => of_schemas(alloc, name, tree, extensions),
     }
 }

@@ -16,6 +16,10 @@
 //! | `count TYPE` | a JSON text | the schema readings, and the values of the tree |
 //! | `count-from N TYPE` | a JSON text | `within`, where N readings at least were counted, and no more than the tree has values |
 //! | `same TYPE` | two JSON texts, a tab between | whether both values are the same |
+//! | `merge TYPE` | two JSON texts, a tab between | what the first value is written as, once it has taken what it lacks of the second |
+//! | `merge-paths` | a JSON text, a list | what the paths of the list are written as, merged all at once |
+//! | `add PATH` | three JSON texts, a tab between each: paths, a list of methods, an operation | what the paths are written as, once a copy of the operation was put at each of the methods of PATH |
+//! | `callbacks` | a number | `true`, where an operation in so many callbacks, one in the other, is kept |
 //!
 //! A value that prints another text than that of the tree that it is written as is told so by `read` and `print`, as
 //! `printed otherwise`, and that text.
@@ -25,6 +29,8 @@ mod extended;
 mod extensions;
 mod faults;
 mod hex;
+mod merged;
+mod nested;
 mod planned;
 mod printing;
 mod question;
@@ -78,6 +84,10 @@ fn answer_to_call(
         "count" => types::answer_of_type(alloc, Question::Count, kind, given),
         "count-from" => counted_from(alloc, kind, given),
         "same" => same::are_same(alloc, kind, given),
+        "merge" => merged::merged_of_type(alloc, kind, given),
+        "merge-paths" => merged::merged_list(alloc, given),
+        "add" => merged::with_operation(alloc, kind, given),
+        "callbacks" => nested::callbacks_kept(alloc, given),
         _ => String::from_str(alloc, "no such call"),
     }
 }

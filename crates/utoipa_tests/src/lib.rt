@@ -25,7 +25,13 @@ mod numbers;
 #[cfg(test)]
 mod operation_parts;
 #[cfg(test)]
+mod operations;
+#[cfg(test)]
 mod ordered_maps;
+#[cfg(test)]
+mod path_items;
+#[cfg(test)]
+mod paths;
 #[cfg(test)]
 mod printed;
 #[cfg(test)]

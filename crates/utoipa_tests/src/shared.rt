@@ -3,6 +3,7 @@
 //! function, since a call of one is proved sooner than the assertion.
 use serde_json::Value;
 use std::process::Abort;
+use std::vec::IntoIter;
 use utoipa_base::{Extensions, ReadFault, Readings, Tree};
 
 pub fn text(rt: &(impl Abort + AllocGlobal), word: &str) -> String {
@@ -11,6 +12,14 @@ pub fn text(rt: &(impl Abort + AllocGlobal), word: &str) -> String {
 
 pub fn tree(rt: &(impl Abort + AllocGlobal), json: &str) -> Value {
     Value::from_str(rt.alloc(), json).expect(rt, "a tree")
+}
+
+/// An iterator that gives both items.
+pub fn two<T: Drop>(rt: &(impl Abort + AllocGlobal), first: T, second: T) -> IntoIter<T> {
+    let mut items = Vec::new(rt.alloc());
+    items.push(first).expect(rt, "memory for an item");
+    items.push(second).expect(rt, "memory for an item");
+    items.into_iter()
 }
 
 /// What a text reads as. An extension may hold a fraction.

@@ -1,0 +1,4 @@
+pub mod ExtensionsInOrder
+pub mod ItemSteps
+pub mod OperationAdded
+pub mod PathsViews

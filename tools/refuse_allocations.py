@@ -1,0 +1,180 @@
+#!/usr/bin/env python3
+"""Runs programs with each of their requests for memory refused in turn, and ends with status 1 at the first run that told it wrongly.
+
+usage: tools/refuse_allocations.py [WORD..]     tries the calls that hold every WORD, as `schema` or `read Server`; with none, all
+
+A call is a program, its words and its input. It is run once as it is; then with its first request for memory refused, with its
+second, and so on, until a run has none left to refuse. Each of these has to tell what the program tells of a refusal, as the tables
+below say, or to give the answer of the first run. That answer is compared with the stored one, where there is one.
+
+The programs are the proved ones: `rt run <stdin` in crates/NAME builds crates/NAME/out/NAME. Requests are refused by a small library
+that is loaded before C's, so this needs Linux and a C compiler, $CC or else cc. A run takes some milliseconds.
+"""
+import collections
+import os
+import subprocess
+import sys
+import tempfile
+
+ROOT = os.path.dirname(os.path.dirname(os.path.abspath(__file__)))
+
+# What a run ends with: the exit status, standard output and standard error.
+Outcome = collections.namedtuple("Outcome", "status output errors")
+
+# A call by its name: the program, its words, its input, the stored answer if there is one, and the outcomes that tell a refusal.
+Call = collections.namedtuple("Call", "name program words given stored told")
+
+# ---- The calls of the command: its words, the file of its input, and the file of its answer, if one is stored.
+
+COMMANDS = [
+    (["server"], "crates/utoipa_doc/stdin", "crates/utoipa_doc/stdout"),
+    (["server"], "examples/server.json", None),
+    (["schema"], "examples/schema.json", None),
+]
+
+# The command says that memory was refused, and nothing else.
+COMMAND_TELLS = [Outcome(1, "", "refused: memory\n")]
+
+# ---- The calls of the cases' program: lines of crates/utoipa_cases/stdin, by how they begin.
+
+# How a line begins; how many lines of each call are tried, those with the longest inputs; and what the program may print in place of
+# the answer. A text that was not read for want of memory is no tree to it.
+CASES = [
+    # Reads the tree as a type, copies the value, writes and prints it.
+    ("read ", 1, ["refused: memory", "no tree"]),
+    # Change a value, and print the second line where the value's tree is what it was; where it is not, they print another one.
+    ("merge PathItem\t", 100, ["refused: memory", "refused: memory, and nothing has changed", "no tree"]),
+    ("merge Paths\t", 100, ["refused: memory", "refused: memory, and nothing has changed", "no tree"]),
+    ("add ", 100, ["refused: memory", "refused: memory, and nothing has changed", "no tree"]),
+]
+
+# What the cases' program says on standard error, with status 1, where its own reading or writing of lines was refused memory.
+CASES_END_WITH = "Error: Kind(OutOfMemory)\n"
+
+# Refuses the request of the number REFUSED, and tells it by a byte on the file of the number TELL.
+REFUSING = r"""
+#define _GNU_SOURCE
+#include <dlfcn.h>
+#include <errno.h>
+#include <stdlib.h>
+#include <unistd.h>
+
+static long requests_left = -1;
+
+static int is_refused(void) {
+    if (requests_left < 0) {
+        const char *refused = getenv("REFUSED");
+        requests_left = refused ? atol(refused) : 0;
+    }
+    if (requests_left == 0 || --requests_left > 0) return 0;
+    if (write(atoi(getenv("TELL")), "!", 1) != 1) abort();
+    errno = ENOMEM;
+    return 1;
+}
+
+#define REFUSING(type, name, parameters, arguments) \
+    type name parameters { \
+        static type (*next) parameters; \
+        if (!next) next = (type (*) parameters)dlsym(RTLD_NEXT, #name); \
+        return is_refused() ? NULL : next arguments; \
+    }
+
+REFUSING(void *, malloc, (size_t size), (size))
+REFUSING(void *, realloc, (void *kept, size_t size), (kept, size))
+REFUSING(void *, aligned_alloc, (size_t alignment, size_t size), (alignment, size))
+"""
+
+
+def text_of(path):
+    with open(os.path.join(ROOT, path), encoding="utf-8", newline="") as file:
+        return file.read()
+
+
+def calls_of_command():
+    """Each line of COMMANDS as a call."""
+    for words, given, stored in COMMANDS:
+        name = "utoipa_doc %s < %s" % (" ".join(words), given)
+        yield Call(name, "utoipa_doc", words, text_of(given), stored and text_of(stored), COMMAND_TELLS)
+
+
+def calls_of_cases():
+    """The lines of the cases that CASES picks, each as a call whose input it is."""
+    lines = list(zip(*(text_of("crates/utoipa_cases/" + it).split("\n") for it in ("stdin", "stdout"))))
+    for beginning, most, told in CASES:
+        by_call = {}
+        for line, answer in lines:
+            if line.startswith(beginning):
+                by_call.setdefault(line.partition("\t")[0], []).append((line, answer))
+        for of_call in by_call.values():
+            of_call.sort(key=lambda it: -len(it[0]))
+            for line, answer in of_call[:most]:
+                yield call_of_line(line, answer, told)
+
+
+def call_of_line(line, answer, told):
+    """A line of the cases and its stored answer as a call."""
+    # The program may have answered already where the reading of the next line is refused.
+    outcomes = [Outcome(1, printed, CASES_END_WITH) for printed in ("", answer + "\n")]
+    outcomes += [Outcome(0, it + "\n", "") for it in told]
+    return Call("utoipa_cases: " + line.replace("\t", " "), "utoipa_cases", [], line + "\n", answer + "\n", outcomes)
+
+
+def library_in(folder):
+    """Builds the library that refuses requests, and returns its path."""
+    library = os.path.join(folder, "refusing.so")
+    words = [os.environ.get("CC", "cc"), "-shared", "-fPIC", "-O1", "-x", "c", "-", "-o", library]
+    subprocess.run(words, input=REFUSING, text=True, check=True)
+    return library
+
+
+def run(call, library, refused):
+    """The outcome of a call, and whether a request was refused. The first one has the number 1; with 0 none is."""
+    told, tell = os.pipe()
+    environment = {"LD_PRELOAD": library, "REFUSED": str(refused), "TELL": str(tell)}
+    program = os.path.join(ROOT, "crates", call.program, "out", call.program)
+    how = {"input": call.given.encode(), "stdout": subprocess.PIPE, "stderr": subprocess.PIPE, "timeout": 60}
+    try:
+        ended = subprocess.run([program, *call.words], env=environment, pass_fds=[tell], **how)
+        outcome = Outcome(ended.returncode, ended.stdout.decode(errors="replace"), ended.stderr.decode(errors="replace"))
+    except subprocess.TimeoutExpired:
+        outcome = Outcome("none after a minute", "", "")
+    os.close(tell)
+    with os.fdopen(told, "rb") as pipe:
+        return outcome, pipe.read() != b""
+
+
+def refuse_each(call, library):
+    """Refuses each request of a call in turn. Returns how many were told and how many did no harm, or ends where one was told wrongly."""
+    own, _ = run(call, library, 0)
+    if call.stored is not None and own.output != call.stored:
+        sys.exit("%s: with no request refused, not the stored answer: %r" % (call.name, own))
+    told, harmless, number = 0, 0, 1
+    while True:
+        outcome, was_refused = run(call, library, number)
+        if outcome != own and not (was_refused and outcome in call.told):
+            sys.exit("%s: request %d was refused, and told wrongly: %r" % (call.name, number, outcome))
+        if not was_refused:
+            return told, harmless
+        told, harmless = (told, harmless + 1) if outcome == own else (told + 1, harmless)
+        number += 1
+
+
+def main():
+    calls = [it for it in [*calls_of_command(), *calls_of_cases()] if all(word in it.name for word in sys.argv[1:])]
+    if not calls:
+        sys.exit("no call holds these words")
+    lacking = sorted({it.program for it in calls if not os.path.exists(os.path.join(ROOT, "crates", it.program, "out", it.program))})
+    if lacking:
+        sys.exit("to be built first, by `rt run <stdin` in crates/NAME: " + ", ".join(lacking))
+    total = 0
+    with tempfile.TemporaryDirectory() as folder:
+        library = library_in(folder)
+        for call in calls:
+            told, harmless = refuse_each(call, library)
+            total += told + harmless
+            print("%d told, %d without harm: %.150s" % (told, harmless, call.name), flush=True)
+    print("%d calls, %d requests refused, none told wrongly" % (len(calls), total))
+
+
+if __name__ == "__main__":
+    main()
