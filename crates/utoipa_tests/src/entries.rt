@@ -1,6 +1,5 @@
 //! Objects whose members are entries of a map, beside their extensions.
-use crate::printed::is_json_text;
-use crate::shared::{is_number, is_text, is_tree, tree};
+use crate::shared::{is_json_text, is_number, is_text, is_tree, tree};
 use json::Writer;
 use serde_json::Value;
 use std::process::Abort;

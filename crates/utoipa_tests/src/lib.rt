@@ -1,15 +1,12 @@
-//! What needs code to be tested: builders, conversions, comparisons, copies, and memory that is refused. What can be
-//! told as an input and an output is a line of the table of cases of `utoipa_cases`.
+//! What needs code to be tested of the basic types, the small objects, security and the command: builders, conversions,
+//! comparisons, copies, and memory that is refused. What can be told as an input and an output is a line of the table of
+//! cases of `utoipa_cases`.
 #![tactic(auto)]
 
-#[cfg(test)]
-mod combinations;
 #[cfg(test)]
 mod command;
 #[cfg(test)]
 mod compared;
-#[cfg(test)]
-mod conversions;
 #[cfg(test)]
 mod entries;
 #[cfg(test)]
@@ -19,33 +16,15 @@ mod extensions;
 #[cfg(test)]
 mod info;
 #[cfg(test)]
-mod media;
-#[cfg(test)]
 mod numbers;
 #[cfg(test)]
-mod operation_parts;
-#[cfg(test)]
-mod operations;
-#[cfg(test)]
 mod ordered_maps;
-#[cfg(test)]
-mod path_items;
-#[cfg(test)]
-mod paths;
 #[cfg(test)]
 mod printed;
 #[cfg(test)]
 mod references;
 #[cfg(test)]
 mod rows;
-#[cfg(test)]
-mod schema_arrays;
-#[cfg(test)]
-mod schema_objects;
-#[cfg(test)]
-mod schema_parts;
-#[cfg(test)]
-mod schema_words;
 #[cfg(test)]
 mod security_flows;
 #[cfg(test)]
@@ -58,5 +37,3 @@ mod shared;
 mod tag;
 #[cfg(test)]
 mod words;
-#[cfg(test)]
-mod xml;

@@ -1,7 +1,6 @@
 //! Maps that keep their order: that in which entries were put, and the order of the names in a tree and in a text.
-use crate::printed::is_json;
 use crate::shared::{
-    came_to, is_flag, is_number, is_text, is_tree, is_written_first, read, text, tree,
+    came_to, is_flag, is_json, is_number, is_text, is_tree, is_written_first, read, text, tree,
 };
 use indexmap::IndexMap;
 use serde_json::{Map, Value};

@@ -1,9 +1,9 @@
 //! What the tests share. Nothing here answers an error: a test ends where something fails. So no function has an exit
 //! on which its values are dropped, and it is those that take the time of a proof. Each assertion that recurs is a
-//! function, since a call of one is proved sooner than the assertion.
+//! function, since a call of one is proved sooner than the assertion. Only tests may end where something fails, so what two
+//! crates of tests share stands in each.
 use serde_json::Value;
 use std::process::Abort;
-use std::vec::IntoIter;
 use utoipa_base::{Extensions, ReadFault, Readings, Tree};
 
 pub fn text(rt: &(impl Abort + AllocGlobal), word: &str) -> String {
@@ -12,14 +12,6 @@ pub fn text(rt: &(impl Abort + AllocGlobal), word: &str) -> String {
 
 pub fn tree(rt: &(impl Abort + AllocGlobal), json: &str) -> Value {
     Value::from_str(rt.alloc(), json).expect(rt, "a tree")
-}
-
-/// An iterator that gives both items.
-pub fn two<T: Drop>(rt: &(impl Abort + AllocGlobal), first: T, second: T) -> IntoIter<T> {
-    let mut items = Vec::new(rt.alloc());
-    items.push(first).expect(rt, "memory for an item");
-    items.push(second).expect(rt, "memory for an item");
-    items.into_iter()
 }
 
 /// What a text reads as. An extension may hold a fraction.
@@ -84,4 +76,22 @@ pub fn is_number(rt: &impl Abort, found: u64, expected: u64) {
 
 pub fn is_flag(rt: &impl Abort, found: bool, expected: bool) {
     assert_eq!(rt; found, expected);
+}
+
+/// The bytes are the text.
+pub fn is_json_text(rt: &(impl Abort + AllocGlobal), json: Vec<u8>, expected: &str) {
+    let shown = String::from_utf8_lossy(rt.alloc(), json.as_slice());
+    let shown = shown.expect(rt, "memory for a text");
+    is_text(rt, shown.as_str(), expected);
+}
+
+/// The value as JSON is the text, also after a bracket.
+pub fn is_json<T: Tree>(rt: &(impl Abort + AllocGlobal), value: &T, expected: &str) {
+    let alone = value.to_json(rt.alloc()).expect(rt, "memory for a text");
+    is_json_text(rt, alone, expected);
+    let bracket = Vec::from_array(rt.alloc(), [b'[']).expect(rt, "memory for a byte");
+    let appended = value.append_json(rt.alloc(), bracket);
+    let expected = format!(in rt.alloc(); "[{expected}").expect(rt, "memory for a text");
+    let appended = appended.expect(rt, "memory for a text");
+    is_json_text(rt, appended, expected.as_str());
 }

@@ -1,6 +1,5 @@
 //! Path items, as their constructors and builders make them, and merged.
-use crate::printed::is_json;
-use crate::shared::{extension, is_text, is_written, is_written_first, read, text, two};
+use crate::shared::{extension, is_json, is_text, is_written, is_written_first, read, text, two};
 use std::process::Abort;
 use std::vec::IntoIter;
 use utoipa_base::Ref;

@@ -1,7 +1,7 @@
 //! Operations and callbacks, as their constructors and builders make them.
-use crate::printed::is_json;
 use crate::shared::{
-    extension, is_flag, is_number, is_text, is_written, is_written_first, read, text, tree, two,
+    extension, is_flag, is_json, is_number, is_text, is_written, is_written_first, read, text,
+    tree, two,
 };
 use std::collections::BTreeMap;
 use std::process::Abort;

@@ -1,0 +1,18 @@
+//! What needs code to be tested of contents, responses, operations, path items and paths: builders, conversions, copies and
+//! merging.
+#![tactic(auto)]
+
+#[cfg(test)]
+mod media;
+#[cfg(test)]
+mod operation_parts;
+#[cfg(test)]
+mod operations;
+#[cfg(test)]
+mod path_items;
+#[cfg(test)]
+mod paths;
+#[cfg(test)]
+mod schema_parts;
+#[cfg(test)]
+mod shared;
