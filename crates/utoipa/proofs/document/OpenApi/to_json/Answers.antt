@@ -6,7 +6,7 @@ use Rattle.utoipa_base.specs.Printed.{value_tokens}
 use Rattle.utoipa_base.specs.Writing.{write}
 use Rattle.utoipa_base.proofs.Tokens.{text_of_tokens}
 use Rattle.utoipa.specs.OpenApi.{openapi_doc}
-use Rattle.utoipa.proofs.text.OpenApi.to_json.Goals as goal
+use Rattle.utoipa.proofs.document.OpenApi.to_json.Goals as goal
 
 pub unwrap-requires : goal.unwrap-requires
 unwrap-requires c =
