@@ -108,8 +108,8 @@ def words_of(text):
 
 # The types that are built and read by a table of their own. MutualTls serves a variant of SecurityScheme.
 SWEPT = """Ref Info Contact License ExternalDocs Server ServerVariable Tag Xml Example Content Encoding Header Link RequestBody
-    Response Parameter Operation PathItem Object Array OneOf AllOf AnyOf Discriminator ApiKeyValue Http OpenIdConnect MutualTls OAuth2
-    Scopes Implicit Password ClientCredentials AuthorizationCode DeviceAuthorization""".split()
+    Response Parameter Operation PathItem OpenApi Components Object Array OneOf AllOf AnyOf Discriminator ApiKeyValue Http OpenIdConnect
+    MutualTls OAuth2 Scopes Implicit Password ClientCredentials AuthorizationCode DeviceAuthorization""".split()
 
 WITHOUT_EXTENSIONS = ("Ref", "Xml", "Scopes")
 
@@ -129,7 +129,9 @@ PLAIN = {
     "flows": ({"k": {"scopes": {}, "tokenUrl": "t"}}, 5, "kind"),
     "Responses": ({"200": {"description": "d"}}, 5, "kind"),
     "Callback": ({"e": {"summary": "s"}}, 5, "kind"),
+    "Paths": ({"/p": {"summary": "s"}}, 5, "kind"),
     "SecurityRequirement": ({"k": ["s"]}, 5, "kind"),
+    "SecurityScheme": ({"type": "mutualTLS"}, 5, "kind"),
 }
 
 
