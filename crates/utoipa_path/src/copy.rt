@@ -1,9 +1,9 @@
 //! Copying operations, path items and callbacks, which hold each other.
 //!
 //! The functions of the cycle copy what holds operations or path items; each of these is put together, with the members that
-//! hold none, outside of it. Most are not inlined: an item has room for nine operations, and the room that putting one together
-//! takes is not needed while those inside are copied.
-ghost use Rattle.std.specs.Prelude.{◌≡◌, IfOk};
+//! hold none, outside of it.
+ghost use Rattle.std.specs.Prelude.{◌≡◌, IfOk, OnOk, string_cmp};
+ghost use Rattle.std.specs.BTreeMap.{insert_entry};
 ghost use Rattle.utoipa_base.specs.Kinds.{path_item_object, named};
 ghost use Rattle.utoipa_base.specs.Refs.{ref_or_doc};
 ghost use Rattle.utoipa_base.specs.Tables.{callback as callback_kind};
@@ -19,7 +19,6 @@ use utoipa_base::{RefOr, Tree, clone_extensions, clone_option};
 
 /// Copies an operation. Fails where memory runs out.
 #[cycle(copy)]
-#[inline(never)]
 pub(crate) fn clone_operation(alloc: Global, operation: &Operation) -> Result<Operation, AllocError>
     ensures { IfOk result (λ copy. operation_doc copy ≡ operation_doc operation.now) }
 {
@@ -29,7 +28,6 @@ pub(crate) fn clone_operation(alloc: Global, operation: &Operation) -> Result<Op
 
 /// Copies a path item. Fails where memory runs out.
 #[cycle(copy)]
-#[inline(never)]
 pub(crate) fn clone_path_item(alloc: Global, item: &PathItem) -> Result<PathItem, AllocError>
     ensures { IfOk result (λ copy. path_item_doc copy ≡ path_item_doc item.now) }
 {
@@ -61,7 +59,7 @@ pub(crate) fn clone_callback(alloc: Global, callback: &Callback) -> Result<Callb
     for (key, member) in callback.iter() {
         let name = key.clone()?;
         let value = clone_ref_or_path_item(alloc, member)?;
-        drop(map.insert(name, value)?);
+        put(&mut map, name, value)?;
     }
     Ok(map)
 }
@@ -83,7 +81,6 @@ fn clone_ref_or_callback(
 
 /// Copies references and callbacks with their names. Fails where memory runs out.
 #[cycle(copy)]
-#[inline(never)]
 fn clone_callback_map(
     alloc: Global,
     callbacks: &BTreeMap<String, RefOr<Callback>>,
@@ -94,14 +91,13 @@ fn clone_callback_map(
     for (key, member) in callbacks.iter() {
         let name = key.clone()?;
         let value = clone_ref_or_callback(alloc, member)?;
-        drop(map.insert(name, value)?);
+        put(&mut map, name, value)?;
     }
     Ok(map)
 }
 
 /// Copies operations with the names of their methods. Fails where memory runs out.
 #[cycle(copy)]
-#[inline(never)]
 fn clone_operation_map(
     alloc: Global,
     operations: &BTreeMap<String, Operation>,
@@ -112,14 +108,13 @@ fn clone_operation_map(
     for (key, member) in operations.iter() {
         let name = key.clone()?;
         let value = clone_operation(alloc, member)?;
-        drop(map.insert(name, value)?);
+        put(&mut map, name, value)?;
     }
     Ok(map)
 }
 
 /// Copies the operation of a method, if there is one. Fails where memory runs out.
 #[cycle(copy)]
-#[inline(never)]
 fn clone_method(alloc: Global, method: &Option<Operation>) -> Result<Option<Operation>, AllocError>
     ensures { IfOk result (λ copy. option_of operation_doc copy ≡ option_of operation_doc method.now) }
 {
@@ -131,7 +126,6 @@ fn clone_method(alloc: Global, method: &Option<Operation>) -> Result<Option<Oper
 
 /// A path item that has copies of the operations of another, and nothing else. Fails where memory runs out.
 #[cycle(copy)]
-#[inline(never)]
 fn clone_operations(alloc: Global, item: &PathItem) -> Result<PathItem, AllocError>
     ensures { IfOk result (λ copy. operations_of operation_doc (out-PathItem copy)
         ≡ operations_of operation_doc (out-PathItem item.now)) }
@@ -156,8 +150,17 @@ fn clone_operations(alloc: Global, item: &PathItem) -> Result<PathItem, AllocErr
     })
 }
 
-/// Copies an operation, whose callbacks have been copied. Fails where memory runs out.
+/// Puts a value into a map under its name. Fails where memory runs out.
+// Not inlined: a node of the map has room for eleven values, which is not to stand on the stack while a value inside is copied.
 #[inline(never)]
+fn put<T: Drop>(map: &mut BTreeMap<String, T>, name: String, value: T) -> Result<(), AllocError>
+    ensures { OnOk result (map.new.entries ≡ insert_entry string_cmp map.old.entries name value) }
+{
+    drop(map.insert(name, value)?);
+    Ok(())
+}
+
+/// Copies an operation, whose callbacks have been copied. Fails where memory runs out.
 fn clone_operation_with(
     alloc: Global,
     operation: &Operation,
@@ -196,7 +199,6 @@ fn clone_operation_with(
 }
 
 /// Copies a path item, whose operations have been copied. Fails where memory runs out.
-#[inline(never)]
 fn clone_path_item_with(
     alloc: Global,
     item: &PathItem,
