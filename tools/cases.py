@@ -18,6 +18,8 @@ The sweeps over the member tables are made here, from the tables of docs/FORMAT.
 with a value that fits, absent, null, and with a value of another kind, on the smallest document of its type.
 What is expected is the rule of the member's mark. Each type that keeps extensions is printed with extensions of any names;
 what is expected is the object of all members, in the order of the bytes of their names, where the type's own member wins.
+
+Each file of examples/ is read as its type. It has no member that is dropped or left out, so what is expected is its own tree.
 """
 import ast
 import glob
@@ -108,8 +110,8 @@ def words_of(text):
 
 # The types that are built and read by a table of their own. MutualTls serves a variant of SecurityScheme.
 SWEPT = """Ref Info Contact License ExternalDocs Server ServerVariable Tag Xml Example Content Encoding Header Link RequestBody
-    Response Parameter Operation PathItem Object Array OneOf AllOf AnyOf Discriminator ApiKeyValue Http OpenIdConnect MutualTls OAuth2
-    Scopes Implicit Password ClientCredentials AuthorizationCode DeviceAuthorization""".split()
+    Response Parameter Operation PathItem OpenApi Components Object Array OneOf AllOf AnyOf Discriminator ApiKeyValue Http OpenIdConnect
+    MutualTls OAuth2 Scopes Implicit Password ClientCredentials AuthorizationCode DeviceAuthorization""".split()
 
 WITHOUT_EXTENSIONS = ("Ref", "Xml", "Scopes")
 
@@ -129,7 +131,9 @@ PLAIN = {
     "flows": ({"k": {"scopes": {}, "tokenUrl": "t"}}, 5, "kind"),
     "Responses": ({"200": {"description": "d"}}, 5, "kind"),
     "Callback": ({"e": {"summary": "s"}}, 5, "kind"),
+    "Paths": ({"/p": {"summary": "s"}}, 5, "kind"),
     "SecurityRequirement": ({"k": ["s"]}, 5, "kind"),
+    "SecurityScheme": ({"type": "mutualTLS"}, 5, "kind"),
 }
 
 
@@ -301,6 +305,18 @@ def add_trees(cases, name):
         cases.add("read " + name, text_of(tree), "refused: kind")
 
 
+# The type of each file of examples/.
+EXAMPLES = {"schema.json": "RefOr<Schema>", "server.json": "Server", "shop.json": "OpenApi", "shop-3.2.json": "OpenApi"}
+
+
+def add_examples(cases):
+    for name, type in EXAMPLES.items():
+        with open(os.path.join(ROOT, "examples", name), encoding="utf-8") as text:
+            tree = json.load(text)
+        cases.say("# examples/%s" % name)
+        cases.add("read " + type, json.dumps(tree, separators=(",", ":"), ensure_ascii=False), text_of(tree))
+
+
 def all_cases():
     cases = Cases()
     for file in sorted(glob.glob(os.path.join(CRATE, "tables", "*.txt"))):
@@ -308,6 +324,7 @@ def all_cases():
             add_by_hand(cases, lines.read().rstrip("\n").split("\n"), file)
     with open(os.path.join(ROOT, "docs", "FORMAT.md"), encoding="utf-8") as text:
         form = Format(text.read())
+    add_examples(cases)
     for name in SWEPT:
         sweep = Sweep(cases, form, name)
         sweep.add()

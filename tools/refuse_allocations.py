@@ -30,6 +30,7 @@ COMMANDS = [
     (["server"], "crates/utoipa_doc/stdin", "crates/utoipa_doc/stdout"),
     (["server"], "examples/server.json", None),
     (["schema"], "examples/schema.json", None),
+    (["document"], "examples/document.json", None),
 ]
 
 # The command says that memory was refused, and nothing else.

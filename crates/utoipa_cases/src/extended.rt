@@ -1,6 +1,8 @@
 //! The types that keep extensions.
 
+use utoipa::openapi::OpenApi;
 use utoipa_base::{Extensions, Tree};
+use utoipa_components::Components;
 use utoipa_leaf::example::Example;
 use utoipa_leaf::external_docs::ExternalDocs;
 use utoipa_leaf::info::{Contact, Info, License};
@@ -135,6 +137,18 @@ impl Extended for PathItem {
 }
 
 impl Extended for Paths {
+    fn set_extensions(&mut self, extensions: Extensions) {
+        self.extensions = Some(extensions);
+    }
+}
+
+impl Extended for OpenApi {
+    fn set_extensions(&mut self, extensions: Extensions) {
+        self.extensions = Some(extensions);
+    }
+}
+
+impl Extended for Components {
     fn set_extensions(&mut self, extensions: Extensions) {
         self.extensions = Some(extensions);
     }

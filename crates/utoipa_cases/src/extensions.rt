@@ -5,7 +5,9 @@ use crate::printing::printed;
 use crate::question::refused;
 use serde_json::Value;
 use std::alloc::{AllocError, Global};
+use utoipa::openapi::OpenApi;
 use utoipa_base::Extensions;
+use utoipa_components::Components;
 use utoipa_leaf::example::Example;
 use utoipa_leaf::external_docs::ExternalDocs;
 use utoipa_leaf::info::{Contact, Info, License};
@@ -96,6 +98,8 @@ fn of_paths(
         "Operation" => with_extensions::<Operation>(alloc, tree, extensions),
         "PathItem" => with_extensions::<PathItem>(alloc, tree, extensions),
         "Paths" => with_extensions::<Paths>(alloc, tree, extensions),
+        "OpenApi" => with_extensions::<OpenApi>(alloc, tree, extensions),
+        "Components" => with_extensions::<Components>(alloc, tree, extensions),
         _ => of_schemas(alloc, name, tree, extensions),
     }
 }

@@ -4,7 +4,9 @@ use crate::question::{Question, answered};
 use serde_json::Value;
 use std::alloc::{AllocError, Global};
 use std::collections::BTreeMap;
+use utoipa::openapi::OpenApi;
 use utoipa_base::{Deprecated, Number, Ref, RefOr, Required};
+use utoipa_components::Components;
 use utoipa_leaf::example::Example;
 use utoipa_leaf::external_docs::ExternalDocs;
 use utoipa_leaf::info::{Contact, Info, License};
@@ -144,6 +146,8 @@ fn of_paths(
         "Operation" => answered::<Operation>(alloc, question, tree),
         "PathItem" => answered::<PathItem>(alloc, question, tree),
         "Paths" => answered::<Paths>(alloc, question, tree),
+        "OpenApi" => answered::<OpenApi>(alloc, question, tree),
+        "Components" => answered::<Components>(alloc, question, tree),
         "Callback" => answered::<Callback>(alloc, question, tree),
         "RefOr<Operation>" => answered::<RefOr<Operation>>(alloc, question, tree),
         "RefOr<PathItem>" => answered::<RefOr<PathItem>>(alloc, question, tree),
