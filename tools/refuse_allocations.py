@@ -30,7 +30,17 @@ COMMANDS = [
     (["server"], "crates/utoipa_doc/stdin", "crates/utoipa_doc/stdout"),
     (["server"], "examples/server.json", None),
     (["schema"], "examples/schema.json", None),
-    (["document"], "examples/document.json", None),
+    (["document"], "examples/shop.json", None),
+    (["document"], "examples/shop-3.2.json", None),
+]
+
+# The same of an input that is in no file: the words, the input, and the answer.
+COMMANDS_ON_TEXTS = [
+    (
+        ["document"],
+        '{"openapi":"3.1.x.0","info":{"title":"t","version":"1"},"paths":{"x-team":"a","/a":{}}}',
+        '{"info":{"title":"t","version":"1"},"openapi":"3.1.0","paths":{"/a":{},"x-team":"a"}}\n',
+    ),
 ]
 
 # The command says that memory was refused, and nothing else.
@@ -92,10 +102,12 @@ def text_of(path):
 
 
 def calls_of_command():
-    """Each line of COMMANDS as a call."""
+    """Each line of COMMANDS and of COMMANDS_ON_TEXTS as a call."""
     for words, given, stored in COMMANDS:
         name = "utoipa_doc %s < %s" % (" ".join(words), given)
         yield Call(name, "utoipa_doc", words, text_of(given), stored and text_of(stored), COMMAND_TELLS)
+    for words, given, stored in COMMANDS_ON_TEXTS:
+        yield Call("utoipa_doc %s: %s" % (" ".join(words), given), "utoipa_doc", words, given, stored, COMMAND_TELLS)
 
 
 def calls_of_cases():
