@@ -23,15 +23,15 @@ text_read text t (Ok d) has fraction ok = record { tree = t; has = has; plain = 
 text_read text t (Err e) has fraction ok = tt
 
 -- a tree without fractions is no document
-no_document : (text : List ℕ) (t : Data) (e : ReadFault) → read_text text ≡ Some t → (has_float t ≡ true → IsErrOf {T = OpenApi} (Err e) Fraction) → (Err {T = OpenApi} e ≡ Err Fraction → ⊥) → (has_float t ≡ false → read (named open_api_object) t ≡ None) → HasNoDocument text
-no_document text t e has fraction other none = let plain = plain_unless t (has_float t) (Err e) refl fraction other in record { tree = t; has = has; plain = plain; none = none plain }
+no_document : (text : List ℕ) (t : Data) (r : Result OpenApi ReadFault) → read_text text ≡ Some t → (has_float t ≡ true → IsErrOf r Fraction) → (r ≡ Err Fraction → ⊥) → (has_float t ≡ false → read (named open_api_object) t ≡ None) → HasNoDocument text
+no_document text t r has fraction other none = let plain = plain_unless t (has_float t) r refl fraction other in record { tree = t; has = has; plain = plain; none = none plain }
 
 pub text_refused : (text : List ℕ) (t : Data) (r : Result OpenApi ReadFault) → read_text text ≡ Some t → (IsErrOf r Fraction ↔ (has_float t ≡ true)) → IfErr r (λ e. has_float t ≡ false → Refuses (read (named open_api_object) t) e) → IfErr r (RefusesText text)
 text_refused text t (Ok d) has fraction err = tt
 text_refused text t (Err Memory) has fraction err = tt
 text_refused text t (Err Fraction) has fraction err = record { tree = t; has = has; fraction = fraction.0 refl }
-text_refused text t (Err (Missing s)) has fraction err = no_document text t (Missing s) has fraction.1 (λ e. cc) err
-text_refused text t (Err (Kind s)) has fraction err = no_document text t (Kind s) has fraction.1 (λ e. cc) err
-text_refused text t (Err (Word s)) has fraction err = no_document text t (Word s) has fraction.1 (λ e. cc) err
-text_refused text t (Err Alternative) has fraction err = no_document text t Alternative has fraction.1 (λ e. cc) err
+text_refused text t (Err (Missing s)) has fraction err = no_document text t (Err (Missing s)) has fraction.1 (λ e. cc) err
+text_refused text t (Err (Kind s)) has fraction err = no_document text t (Err (Kind s)) has fraction.1 (λ e. cc) err
+text_refused text t (Err (Word s)) has fraction err = no_document text t (Err (Word s)) has fraction.1 (λ e. cc) err
+text_refused text t (Err Alternative) has fraction err = no_document text t (Err Alternative) has fraction.1 (λ e. cc) err
 text_refused text t (Err Text) has fraction err = absurd (err (plain_unless t (has_float t) (Err Text) refl fraction.1 (λ e. cc)))

@@ -1,4 +1,4 @@
-use Rattle.std.proofs.Common.{◌≡◌, ◌∙◌, ◌++◌, IfOk, sym, ap, subst, string_bytes}
+use Rattle.std.proofs.Common.{◌≡◌, ◌∙◌, ◌++◌, IfOk, sym, ap, subst}
 use Rattle.std.specs.Str.{IsUtf8}
 use Rattle.std.specs.String.{string_vec}
 use Rattle.json.specs.Print.{print}
