@@ -1,9 +1,9 @@
 #!/usr/bin/env python3
-"""Writes the cases of crates/utoipa_cases, its files stdin and stdout, which `rt ci` runs and compares.
+"""Writes the cases of each program of cases, its files stdin and stdout, which `rt ci` runs and compares.
 
 usage: tools/cases.py [--check]      with --check: writes nothing, and ends with status 1 where a file isn't as it should be
 
-Cases written by hand are in crates/utoipa_cases/tables/*.txt:
+Cases written by hand are in tables/*.txt of each program's folder, as crates/utoipa_cases/tables:
 
     # what the next cases show               printed as it is, in both files
     CALL                                     the call of the next cases, at the beginning of a line
@@ -29,11 +29,14 @@ import re
 import sys
 
 ROOT = os.path.dirname(os.path.dirname(os.path.abspath(__file__)))
-CRATE = os.path.join(ROOT, "crates", "utoipa_cases")
+
+# The programs of cases. Of the types of docs/FORMAT.md, the second knows those of DOCUMENT_TYPES, and the first all others.
+PROGRAMS = ("utoipa_cases", "utoipa_document_cases", "utoipa_command_cases")
+DOCUMENT_TYPES = ("Operation", "PathItem", "Callback", "Paths", "Components", "OpenApi")
 
 
 class Cases:
-    """The lines of both files."""
+    """The lines of both files of a program."""
 
     def __init__(self):
         self.asked, self.answered = [], []
@@ -309,47 +312,75 @@ def add_trees(cases, name):
 EXAMPLES = {"schema.json": "RefOr<Schema>", "server.json": "Server", "shop.json": "OpenApi", "shop-3.2.json": "OpenApi"}
 
 
-def add_examples(cases):
+def add_examples(cases_of):
     for name, type in EXAMPLES.items():
         with open(os.path.join(ROOT, "examples", name), encoding="utf-8") as text:
             tree = json.load(text)
+        cases = cases_of(type)
         cases.say("# examples/%s" % name)
         cases.add("read " + type, json.dumps(tree, separators=(",", ":"), ensure_ascii=False), text_of(tree))
 
 
-def all_cases():
+def folder_of(program):
+    return os.path.join(ROOT, "crates", program)
+
+
+def by_hand(program):
+    """The cases of a program's tables."""
     cases = Cases()
-    for file in sorted(glob.glob(os.path.join(CRATE, "tables", "*.txt"))):
+    for file in sorted(glob.glob(os.path.join(folder_of(program), "tables", "*.txt"))):
         with open(file, encoding="utf-8") as lines:
             add_by_hand(cases, lines.read().rstrip("\n").split("\n"), file)
-    with open(os.path.join(ROOT, "docs", "FORMAT.md"), encoding="utf-8") as text:
-        form = Format(text.read())
-    add_examples(cases)
-    for name in SWEPT:
-        sweep = Sweep(cases, form, name)
-        sweep.add()
-        add_trees(cases, sweep.type)
-    for printed in PRINTED:
-        Printing(cases, form, *printed).add()
-    for name, words in form.words.items():
-        if name != "OpenApiVersion":
-            add_words(cases, name, words)
     return cases
 
 
+def add_made(cases_of):
+    """Adds the cases that are made here, each type's to the cases of the program that knows it."""
+    with open(os.path.join(ROOT, "docs", "FORMAT.md"), encoding="utf-8") as text:
+        form = Format(text.read())
+    add_examples(cases_of)
+    for name in SWEPT:
+        sweep = Sweep(cases_of(name), form, name)
+        sweep.add()
+        add_trees(sweep.cases, sweep.type)
+    for name, type, fixed in PRINTED:
+        Printing(cases_of(type), form, name, type, fixed).add()
+    for name, words in form.words.items():
+        if name != "OpenApiVersion":
+            add_words(cases_of(name), name, words)
+
+
+def all_cases():
+    """The cases of each program."""
+    cases = {program: by_hand(program) for program in PROGRAMS}
+    add_made(lambda type: cases["utoipa_document_cases" if type in DOCUMENT_TYPES else "utoipa_cases"])
+    return cases
+
+
+def is_as_written(file, text):
+    with open(file, encoding="utf-8") as it:
+        return it.read() == text
+
+
+def write(file, text):
+    with open(file, "w", encoding="utf-8") as it:
+        it.write(text)
+
+
 def main():
-    cases, check, stale = all_cases(), "--check" in sys.argv[1:], False
-    for name, lines in (("stdin", cases.asked), ("stdout", cases.answered)):
-        file, text = os.path.join(CRATE, name), "\n".join(lines) + "\n"
-        if not check:
-            with open(file, "w", encoding="utf-8") as it:
-                it.write(text)
-        else:
-            with open(file, encoding="utf-8") as it:
-                if it.read() != text:
-                    print("%s isn't what tools/cases.py writes" % file)
-                    stale = True
-    print("%d cases" % sum(not it.startswith("#") and it != "" for it in cases.asked))
+    check, stale, total = "--check" in sys.argv[1:], False, 0
+    for program, cases in all_cases().items():
+        for name, lines in (("stdin", cases.asked), ("stdout", cases.answered)):
+            file, text = os.path.join(folder_of(program), name), "\n".join(lines) + "\n"
+            if not check:
+                write(file, text)
+            elif not is_as_written(file, text):
+                print("%s isn't what tools/cases.py writes" % file)
+                stale = True
+        count = sum(not it.startswith("#") and it != "" for it in cases.asked)
+        print("%4d cases of %s" % (count, program))
+        total += count
+    print("%4d cases" % total)
     return 1 if stale else 0
 
 

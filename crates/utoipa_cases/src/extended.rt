@@ -1,8 +1,6 @@
 //! The types that keep extensions.
 
-use utoipa::openapi::OpenApi;
 use utoipa_base::{Extensions, Tree};
-use utoipa_components::Components;
 use utoipa_leaf::example::Example;
 use utoipa_leaf::external_docs::ExternalDocs;
 use utoipa_leaf::info::{Contact, Info, License};
@@ -13,8 +11,6 @@ use utoipa_media::encoding::Encoding;
 use utoipa_media::header::Header;
 use utoipa_media::link::Link;
 use utoipa_operation_parts::{Parameter, RequestBody, Response, Responses};
-use utoipa_path::{Operation, PathItem};
-use utoipa_paths::Paths;
 use utoipa_schema::{AllOf, AnyOf, Array, Object, OneOf, Schema};
 use utoipa_schema_parts::Discriminator;
 use utoipa_security::security::{
@@ -119,36 +115,6 @@ impl Extended for Responses {
 }
 
 impl Extended for Parameter {
-    fn set_extensions(&mut self, extensions: Extensions) {
-        self.extensions = Some(extensions);
-    }
-}
-
-impl Extended for Operation {
-    fn set_extensions(&mut self, extensions: Extensions) {
-        self.extensions = Some(extensions);
-    }
-}
-
-impl Extended for PathItem {
-    fn set_extensions(&mut self, extensions: Extensions) {
-        self.extensions = Some(extensions);
-    }
-}
-
-impl Extended for Paths {
-    fn set_extensions(&mut self, extensions: Extensions) {
-        self.extensions = Some(extensions);
-    }
-}
-
-impl Extended for OpenApi {
-    fn set_extensions(&mut self, extensions: Extensions) {
-        self.extensions = Some(extensions);
-    }
-}
-
-impl Extended for Components {
     fn set_extensions(&mut self, extensions: Extensions) {
         self.extensions = Some(extensions);
     }

@@ -1,5 +1,5 @@
-//! What needs code to be tested of components and documents: builders, conversions, texts, and the paths at which a user finds all
-//! items.
+//! What needs code to be tested of paths, components and documents: builders, conversions, merging, texts, and the module paths at
+//! which a user finds all items.
 #![tactic(auto)]
 
 #[cfg(test)]
@@ -8,5 +8,7 @@ mod components;
 mod documents;
 #[cfg(test)]
 mod module_paths;
+#[cfg(test)]
+mod paths;
 #[cfg(test)]
 mod shared;
