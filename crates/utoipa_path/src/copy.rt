@@ -2,7 +2,8 @@
 //!
 //! The functions of the cycle copy what holds operations or path items; each of these is put together, with the members that
 //! hold none, outside of it.
-ghost use Rattle.std.specs.Prelude.{◌≡◌, IfOk};
+ghost use Rattle.std.specs.Prelude.{◌≡◌, IfOk, OnOk, string_cmp};
+ghost use Rattle.std.specs.BTreeMap.{insert_entry};
 ghost use Rattle.utoipa_base.specs.Kinds.{path_item_object, named};
 ghost use Rattle.utoipa_base.specs.Refs.{ref_or_doc};
 ghost use Rattle.utoipa_base.specs.Tables.{callback as callback_kind};
@@ -58,7 +59,7 @@ pub(crate) fn clone_callback(alloc: Global, callback: &Callback) -> Result<Callb
     for (key, member) in callback.iter() {
         let name = key.clone()?;
         let value = clone_ref_or_path_item(alloc, member)?;
-        drop(map.insert(name, value)?);
+        put(&mut map, name, value)?;
     }
     Ok(map)
 }
@@ -90,7 +91,7 @@ fn clone_callback_map(
     for (key, member) in callbacks.iter() {
         let name = key.clone()?;
         let value = clone_ref_or_callback(alloc, member)?;
-        drop(map.insert(name, value)?);
+        put(&mut map, name, value)?;
     }
     Ok(map)
 }
@@ -107,7 +108,7 @@ fn clone_operation_map(
     for (key, member) in operations.iter() {
         let name = key.clone()?;
         let value = clone_operation(alloc, member)?;
-        drop(map.insert(name, value)?);
+        put(&mut map, name, value)?;
     }
     Ok(map)
 }
@@ -149,7 +150,18 @@ fn clone_operations(alloc: Global, item: &PathItem) -> Result<PathItem, AllocErr
     })
 }
 
+/// Puts a value into a map under its name. Fails where memory runs out.
+// Not inlined: a node of the map has room for eleven values, which is not to stand on the stack while a value inside is copied.
+#[inline(never)]
+fn put<T: Drop>(map: &mut BTreeMap<String, T>, name: String, value: T) -> Result<(), AllocError>
+    ensures { OnOk result (map.new.entries ≡ insert_entry string_cmp map.old.entries name value) }
+{
+    drop(map.insert(name, value)?);
+    Ok(())
+}
+
 /// Copies an operation, whose callbacks have been copied. Fails where memory runs out.
+#[inline(never)]
 fn clone_operation_with(
     alloc: Global,
     operation: &Operation,
@@ -188,6 +200,7 @@ fn clone_operation_with(
 }
 
 /// Copies a path item, whose operations have been copied. Fails where memory runs out.
+#[inline(never)]
 fn clone_path_item_with(
     alloc: Global,
     item: &PathItem,

@@ -49,7 +49,7 @@ pub clone_callback-loop-key-init : goal.clone_callback-loop-key-init
 clone_callback-loop-key-init t c = copied_begun (ref_or_doc (named path_item_object) path_item_doc) _ _ _ (c.into_iter-key-iterator.ensures.into_iter_gives ∙ c.iter-key-items.ensures.rest) (search rules)
 
 pub clone_callback-loop-key-preserved : goal.clone_callback-loop-key-preserved
-clone_callback-loop-key-preserved t c = copied_step (ref_or_doc (named path_item_object) path_item_doc) _ _ _ _ _ _ _ _ c.loop-key.invariant c.in-Some.ensures.steps c.iter-key-items.ensures.ordered c.in_ok-name.ensures.cases c.in_ok-value.ensures c.in_ok-insert.ensures.entries
+clone_callback-loop-key-preserved t c = copied_step (ref_or_doc (named path_item_object) path_item_doc) _ _ _ _ _ _ _ _ c.loop-key.invariant c.in-Some.ensures.steps c.iter-key-items.ensures.ordered c.in_ok-name.ensures.cases c.in_ok-value.ensures c.in_ok-put.ensures
 
 pub clone_callback-returns : goal.clone_callback-returns
 clone_callback-returns t c = copied_map (ref_or_doc (named path_item_object) path_item_doc) c.args.callback.now c.loop-key.map _ c.loop-key.invariant c.in-None.ensures.steps.0
@@ -75,7 +75,7 @@ pub clone_callback_map-loop-key-init : goal.clone_callback_map-loop-key-init
 clone_callback_map-loop-key-init t c = copied_begun (ref_or_doc callback callback_doc) _ _ _ (c.into_iter-key-iterator.ensures.into_iter_gives ∙ c.iter-key-items.ensures.rest) (search rules)
 
 pub clone_callback_map-loop-key-preserved : goal.clone_callback_map-loop-key-preserved
-clone_callback_map-loop-key-preserved t c = copied_step (ref_or_doc callback callback_doc) _ _ _ _ _ _ _ _ c.loop-key.invariant c.in-Some.ensures.steps c.iter-key-items.ensures.ordered c.in_ok-name.ensures.cases c.in_ok-value.ensures c.in_ok-insert.ensures.entries
+clone_callback_map-loop-key-preserved t c = copied_step (ref_or_doc callback callback_doc) _ _ _ _ _ _ _ _ c.loop-key.invariant c.in-Some.ensures.steps c.iter-key-items.ensures.ordered c.in_ok-name.ensures.cases c.in_ok-value.ensures c.in_ok-put.ensures
 
 pub clone_callback_map-returns : goal.clone_callback_map-returns
 clone_callback_map-returns t c = copied_map (ref_or_doc callback callback_doc) c.args.callbacks.now c.loop-key.map _ c.loop-key.invariant c.in-None.ensures.steps.0
@@ -90,7 +90,7 @@ pub clone_operation_map-loop-key-init : goal.clone_operation_map-loop-key-init
 clone_operation_map-loop-key-init t c = copied_begun operation_doc _ _ _ (c.into_iter-key-iterator.ensures.into_iter_gives ∙ c.iter-key-items.ensures.rest) (search rules)
 
 pub clone_operation_map-loop-key-preserved : goal.clone_operation_map-loop-key-preserved
-clone_operation_map-loop-key-preserved t c = copied_step operation_doc _ _ _ _ _ _ _ _ c.loop-key.invariant c.in-Some.ensures.steps c.iter-key-items.ensures.ordered c.in_ok-name.ensures.cases c.in_ok-value.ensures c.in_ok-insert.ensures.entries
+clone_operation_map-loop-key-preserved t c = copied_step operation_doc _ _ _ _ _ _ _ _ c.loop-key.invariant c.in-Some.ensures.steps c.iter-key-items.ensures.ordered c.in_ok-name.ensures.cases c.in_ok-value.ensures c.in_ok-put.ensures
 
 pub clone_operation_map-returns : goal.clone_operation_map-returns
 clone_operation_map-returns t c = copied_map operation_doc c.args.operations.now c.loop-key.map _ c.loop-key.invariant c.in-None.ensures.steps.0

@@ -1,0 +1,307 @@
+//! Building components.
+ghost use Rattle.std.specs.Prelude.{◌≡◌, IfOk, string_cmp};
+ghost use Rattle.std.specs.BTreeMap.{insert_entry};
+ghost use Rattle.std.specs.Iterator.{IsFinite, Drains};
+ghost use Rattle.utoipa_base.specs.Fill.{Pairs, put_each};
+ghost use Rattle.utoipa_base.specs.declared.refs.RefOr.{RefOr};
+ghost use Rattle.utoipa_components.specs.Components.{built_components, AreEmptyComponents, PlacesByName, PathItemsByName};
+ghost use Rattle.utoipa_leaf.specs.declared.example.Example.{Example};
+ghost use Rattle.utoipa_media.specs.declared.link.Link.{Link};
+ghost use Rattle.utoipa_media.specs.declared.types.Content.{Content};
+ghost use Rattle.utoipa_media.specs.declared.types.Header.{Header};
+ghost use Rattle.utoipa_operation_parts.specs.declared.parameter.Parameter.{Parameter};
+ghost use Rattle.utoipa_operation_parts.specs.declared.request_body.RequestBody.{RequestBody};
+ghost use Rattle.utoipa_operation_parts.specs.declared.response.Response.{Response};
+ghost use Rattle.utoipa_path.specs.Builders.{Callback};
+ghost use Rattle.utoipa_schema.specs.declared.types.Schema.{Schema};
+ghost use Rattle.utoipa_security.specs.declared.security.scheme.SecurityScheme.{SecurityScheme};
+
+use crate::components::Components;
+use std::alloc::{AllocError, Global};
+use utoipa_base::{Extensions, RefOr, put_each};
+use utoipa_leaf::example::Example;
+use utoipa_media::content::Content;
+use utoipa_media::header::Header;
+use utoipa_media::link::Link;
+use utoipa_operation_parts::{Parameter, RequestBody, Response};
+use utoipa_path::{Callback, PathItem};
+use utoipa_schema::Schema;
+use utoipa_security::security::SecurityScheme;
+
+/// Builds [`Components`].
+#[derive(Debug, Drop)]
+pub struct ComponentsBuilder {
+    components: Components,
+}
+
+impl ComponentsBuilder {
+    /// Begins with no components and no extensions. Takes no memory.
+    pub fn new(alloc: Global) -> ComponentsBuilder
+        ensures { AreEmptyComponents (built_components result) }
+    {
+        ComponentsBuilder {
+            components: Components::new(alloc),
+        }
+    }
+
+    /// Puts a schema, or a reference to one, under its name, in place of an earlier one of that name.
+    ///
+    /// Fails where memory runs out, and then gives up what was built.
+    pub fn schema(
+        mut self,
+        name: String,
+        schema: RefOr<Schema>,
+    ) -> Result<ComponentsBuilder, AllocError>
+        ensures { IfOk result (λ b. (held : PlacesByName Schema)
+            × (held.entries ≡ insert_entry string_cmp (built_components self).schemas.entries name schema)
+            × (built_components b ≡ record (built_components self) { schemas = held })) }
+    {
+        drop(self.components.schemas.insert(name, schema)?);
+        Ok(self)
+    }
+
+    /// Puts each of the schemas, or references to such, under its name, in place of an earlier one of that name. The iterator has
+    /// to end.
+    ///
+    /// Fails where memory runs out, and then gives up what was built.
+    pub fn schemas_from_iter<I: Iterator<Item = (String, RefOr<Schema>)> + Drop>(
+        mut self,
+        schemas: I,
+    ) -> Result<ComponentsBuilder, AllocError>
+        requires can { I.can_next schemas }
+        requires ends { IsFinite (I.remaining schemas) }
+        ensures { IfOk result (λ b. (given : Pairs (RefOr Schema)) × (held : PlacesByName Schema) × Drains I.next_gives schemas given
+            × (held.entries ≡ put_each given (built_components self).schemas.entries)
+            × (built_components b ≡ record (built_components self) { schemas = held })) }
+    {
+        put_each(&mut self.components.schemas, schemas)?;
+        Ok(self)
+    }
+
+    /// Puts a response, or a reference to one, under its name, in place of an earlier one of that name.
+    ///
+    /// Fails where memory runs out, and then gives up what was built.
+    pub fn response(
+        mut self,
+        name: String,
+        response: RefOr<Response>,
+    ) -> Result<ComponentsBuilder, AllocError>
+        ensures { IfOk result (λ b. (held : PlacesByName Response)
+            × (held.entries ≡ insert_entry string_cmp (built_components self).responses.entries name response)
+            × (built_components b ≡ record (built_components self) { responses = held })) }
+    {
+        drop(self.components.responses.insert(name, response)?);
+        Ok(self)
+    }
+
+    /// Puts each of the responses, or references to such, under its name, in place of an earlier one of that name. The iterator has
+    /// to end.
+    ///
+    /// Fails where memory runs out, and then gives up what was built.
+    pub fn responses_from_iter<I: Iterator<Item = (String, RefOr<Response>)> + Drop>(
+        mut self,
+        responses: I,
+    ) -> Result<ComponentsBuilder, AllocError>
+        requires can { I.can_next responses }
+        requires ends { IsFinite (I.remaining responses) }
+        ensures { IfOk result (λ b. (given : Pairs (RefOr Response)) × (held : PlacesByName Response) × Drains I.next_gives responses given
+            × (held.entries ≡ put_each given (built_components self).responses.entries)
+            × (built_components b ≡ record (built_components self) { responses = held })) }
+    {
+        put_each(&mut self.components.responses, responses)?;
+        Ok(self)
+    }
+
+    /// Puts a parameter, or a reference to one, under its name, in place of an earlier one of that name.
+    ///
+    /// Fails where memory runs out, and then gives up what was built.
+    pub fn parameter(
+        mut self,
+        name: String,
+        parameter: RefOr<Parameter>,
+    ) -> Result<ComponentsBuilder, AllocError>
+        ensures { IfOk result (λ b. (held : PlacesByName Parameter)
+            × (held.entries ≡ insert_entry string_cmp (built_components self).parameters.entries name parameter)
+            × (built_components b ≡ record (built_components self) { parameters = held })) }
+    {
+        drop(self.components.parameters.insert(name, parameter)?);
+        Ok(self)
+    }
+
+    /// Puts an example, or a reference to one, under its name, in place of an earlier one of that name.
+    ///
+    /// Fails where memory runs out, and then gives up what was built.
+    pub fn example(
+        mut self,
+        name: String,
+        example: RefOr<Example>,
+    ) -> Result<ComponentsBuilder, AllocError>
+        ensures { IfOk result (λ b. (held : PlacesByName Example)
+            × (held.entries ≡ insert_entry string_cmp (built_components self).examples.entries name example)
+            × (built_components b ≡ record (built_components self) { examples = held })) }
+    {
+        drop(self.components.examples.insert(name, example)?);
+        Ok(self)
+    }
+
+    /// Puts a request body, or a reference to one, under its name, in place of an earlier one of that name.
+    ///
+    /// Fails where memory runs out, and then gives up what was built.
+    pub fn request_body(
+        mut self,
+        name: String,
+        request_body: RefOr<RequestBody>,
+    ) -> Result<ComponentsBuilder, AllocError>
+        ensures { IfOk result (λ b. (held : PlacesByName RequestBody)
+            × (held.entries ≡ insert_entry string_cmp (built_components self).request_bodies.entries name request_body)
+            × (built_components b ≡ record (built_components self) { request_bodies = held })) }
+    {
+        drop(self.components.request_bodies.insert(name, request_body)?);
+        Ok(self)
+    }
+
+    /// Puts a header, or a reference to one, under its name, in place of an earlier one of that name.
+    ///
+    /// Fails where memory runs out, and then gives up what was built.
+    pub fn header(
+        mut self,
+        name: String,
+        header: RefOr<Header>,
+    ) -> Result<ComponentsBuilder, AllocError>
+        ensures { IfOk result (λ b. (held : PlacesByName Header)
+            × (held.entries ≡ insert_entry string_cmp (built_components self).headers.entries name header)
+            × (built_components b ≡ record (built_components self) { headers = held })) }
+    {
+        drop(self.components.headers.insert(name, header)?);
+        Ok(self)
+    }
+
+    /// Puts a link, or a reference to one, under its name, in place of an earlier one of that name.
+    ///
+    /// Fails where memory runs out, and then gives up what was built.
+    pub fn link(mut self, name: String, link: RefOr<Link>) -> Result<ComponentsBuilder, AllocError>
+        ensures { IfOk result (λ b. (held : PlacesByName Link)
+            × (held.entries ≡ insert_entry string_cmp (built_components self).links.entries name link)
+            × (built_components b ≡ record (built_components self) { links = held })) }
+    {
+        drop(self.components.links.insert(name, link)?);
+        Ok(self)
+    }
+
+    /// Puts a callback, or a reference to one, under its name, in place of an earlier one of that name.
+    ///
+    /// Fails where memory runs out, and then gives up what was built.
+    pub fn callback(
+        mut self,
+        name: String,
+        callback: RefOr<Callback>,
+    ) -> Result<ComponentsBuilder, AllocError>
+        ensures { IfOk result (λ b. (held : PlacesByName Callback)
+            × (held.entries ≡ insert_entry string_cmp (built_components self).callbacks.entries name callback)
+            × (built_components b ≡ record (built_components self) { callbacks = held })) }
+    {
+        drop(self.components.callbacks.insert(name, callback)?);
+        Ok(self)
+    }
+
+    /// Puts a path item under its name, in place of an earlier one of that name.
+    ///
+    /// Fails where memory runs out, and then gives up what was built.
+    pub fn path_item(
+        mut self,
+        name: String,
+        path_item: PathItem,
+    ) -> Result<ComponentsBuilder, AllocError>
+        ensures { IfOk result (λ b. (held : PathItemsByName)
+            × (held.entries ≡ insert_entry string_cmp (built_components self).path_items.entries name path_item)
+            × (built_components b ≡ record (built_components self) { path_items = held })) }
+    {
+        drop(self.components.path_items.insert(name, path_item)?);
+        Ok(self)
+    }
+
+    /// Puts a content, or a reference to one, under its name, in place of an earlier one of that name.
+    ///
+    /// Fails where memory runs out, and then gives up what was built.
+    pub fn media_type(
+        mut self,
+        name: String,
+        media_type: RefOr<Content>,
+    ) -> Result<ComponentsBuilder, AllocError>
+        ensures { IfOk result (λ b. (held : PlacesByName Content)
+            × (held.entries ≡ insert_entry string_cmp (built_components self).media_types.entries name media_type)
+            × (built_components b ≡ record (built_components self) { media_types = held })) }
+    {
+        drop(self.components.media_types.insert(name, media_type)?);
+        Ok(self)
+    }
+
+    /// Puts each of the contents, or references to such, under its name, in place of an earlier one of that name. The iterator has
+    /// to end.
+    ///
+    /// Fails where memory runs out, and then gives up what was built.
+    pub fn media_types_from_iter<I: Iterator<Item = (String, RefOr<Content>)> + Drop>(
+        mut self,
+        media_types: I,
+    ) -> Result<ComponentsBuilder, AllocError>
+        requires can { I.can_next media_types }
+        requires ends { IsFinite (I.remaining media_types) }
+        ensures { IfOk result (λ b. (given : Pairs (RefOr Content)) × (held : PlacesByName Content) × Drains I.next_gives media_types given
+            × (held.entries ≡ put_each given (built_components self).media_types.entries)
+            × (built_components b ≡ record (built_components self) { media_types = held })) }
+    {
+        put_each(&mut self.components.media_types, media_types)?;
+        Ok(self)
+    }
+
+    /// Puts a security scheme, or a reference to one, under its name, in place of an earlier one of that name.
+    ///
+    /// Fails where memory runs out, and then gives up what was built.
+    pub fn security_scheme(
+        mut self,
+        name: String,
+        security_scheme: RefOr<SecurityScheme>,
+    ) -> Result<ComponentsBuilder, AllocError>
+        ensures { IfOk result (λ b. (held : PlacesByName SecurityScheme)
+            × (held.entries ≡ insert_entry string_cmp (built_components self).security_schemes.entries name security_scheme)
+            × (built_components b ≡ record (built_components self) { security_schemes = held })) }
+    {
+        drop(
+            self.components
+                .security_schemes
+                .insert(name, security_scheme)?,
+        );
+        Ok(self)
+    }
+
+    /// Sets the specification extensions.
+    pub fn extensions(mut self, extensions: Option<Extensions>) -> ComponentsBuilder
+        ensures { built_components result ≡ record (built_components self) { extensions = extensions } }
+    {
+        self.components.extensions = extensions;
+        self
+    }
+
+    /// The components that were built.
+    pub fn build(self) -> Components
+        ensures { result ≡ built_components self }
+    {
+        self.components
+    }
+}
+
+impl From<Components> for ComponentsBuilder {
+    ghost from_gives = { λ components builder. built_components builder ≡ components };
+
+    fn from(components: Components) -> ComponentsBuilder {
+        ComponentsBuilder { components }
+    }
+}
+
+impl From<ComponentsBuilder> for Components {
+    ghost from_gives = { λ builder components. components ≡ built_components builder };
+
+    fn from(builder: ComponentsBuilder) -> Components {
+        builder.build()
+    }
+}

@@ -1,0 +1,194 @@
+//! Components: the objects of a document that its other parts refer to.
+ghost use Rattle.std.specs.Prelude.{OnOk, OnErr, string_cmp};
+ghost use Rattle.std.specs.BTreeMap.{insert_entry};
+ghost use Rattle.std.specs.Iterator.{IsFinite, Drains};
+ghost use Rattle.utoipa_base.specs.Fill.{Pairs, put_each};
+ghost use Rattle.utoipa_base.specs.Kinds.{named, components_object};
+ghost use Rattle.utoipa_base.specs.declared.refs.RefOr.{RefOr};
+ghost use Rattle.utoipa_components.specs.Components.{components_doc, components_of_kind, built_components, AreEmptyComponents, HoldSchemes};
+ghost use Rattle.utoipa_security.specs.declared.security.scheme.SecurityScheme.{SecurityScheme};
+
+use crate::builder::ComponentsBuilder;
+use json::Writer;
+use serde_json::Value;
+use std::alloc::{AllocError, Global};
+use std::collections::BTreeMap;
+use utoipa_base::{
+    Extensions, ReadFault, Readings, RefOr, Tree, clone_table, from_fields, print_table, put_all,
+    put_each, read_table, row_names, row_values, write_table,
+};
+use utoipa_leaf::example::Example;
+use utoipa_media::content::Content;
+use utoipa_media::header::Header;
+use utoipa_media::link::Link;
+use utoipa_operation_parts::{Parameter, RequestBody, Response};
+use utoipa_path::{Callback, PathItem};
+use utoipa_schema::Schema;
+use utoipa_security::security::SecurityScheme;
+
+// The rows of components, in the order of their member table: mark, member, field.
+macro_rules! components_rows {
+    ($lines:ident!($($arguments:tt)*)) => {
+        $lines! {
+            $($arguments)*;
+            defaulted "schemas" schemas,
+            defaulted "responses" responses,
+            defaulted "parameters" parameters,
+            defaulted "examples" examples,
+            defaulted "requestBodies" request_bodies,
+            defaulted "headers" headers,
+            defaulted "links" links,
+            defaulted "callbacks" callbacks,
+            defaulted "pathItems" path_items,
+            defaulted "mediaTypes" media_types,
+            defaulted "securitySchemes" security_schemes,
+        }
+    };
+}
+
+// The same, in the order of the members' names.
+macro_rules! components_rows_by_name {
+    ($lines:ident!($($arguments:tt)*)) => {
+        $lines! {
+            $($arguments)*;
+            defaulted "callbacks" callbacks,
+            defaulted "examples" examples,
+            defaulted "headers" headers,
+            defaulted "links" links,
+            defaulted "mediaTypes" media_types,
+            defaulted "parameters" parameters,
+            defaulted "pathItems" path_items,
+            defaulted "requestBodies" request_bodies,
+            defaulted "responses" responses,
+            defaulted "schemas" schemas,
+            defaulted "securitySchemes" security_schemes,
+        }
+    };
+}
+
+/// A Components Object (OpenAPI 3.1, section 4.8.7; `mediaTypes` from 3.2): objects of a document under their names, to which its
+/// other parts refer.
+#[derive(Debug, Drop)]
+pub struct Components {
+    /// The schemas.
+    pub schemas: BTreeMap<String, RefOr<Schema>>,
+    /// The responses.
+    pub responses: BTreeMap<String, RefOr<Response>>,
+    /// The parameters.
+    pub parameters: BTreeMap<String, RefOr<Parameter>>,
+    /// The examples.
+    pub examples: BTreeMap<String, RefOr<Example>>,
+    /// The request bodies: the member `requestBodies`.
+    pub request_bodies: BTreeMap<String, RefOr<RequestBody>>,
+    /// The headers.
+    pub headers: BTreeMap<String, RefOr<Header>>,
+    /// The links.
+    pub links: BTreeMap<String, RefOr<Link>>,
+    /// The callbacks.
+    pub callbacks: BTreeMap<String, RefOr<Callback>>,
+    /// The path items: the member `pathItems`. No reference stands in their place, since a path item has a `$ref` of its own.
+    pub path_items: BTreeMap<String, PathItem>,
+    /// The contents: the member `mediaTypes`.
+    pub media_types: BTreeMap<String, RefOr<Content>>,
+    /// The security schemes: the member `securitySchemes`. Security requirements name them.
+    pub security_schemes: BTreeMap<String, RefOr<SecurityScheme>>,
+    /// Specification extensions.
+    pub extensions: Option<Extensions>,
+}
+
+impl Components {
+    /// No components and no extensions. Takes no memory.
+    pub fn new(alloc: Global) -> Components
+        ensures { AreEmptyComponents result }
+    {
+        Components {
+            schemas: BTreeMap::new(alloc),
+            responses: BTreeMap::new(alloc),
+            parameters: BTreeMap::new(alloc),
+            examples: BTreeMap::new(alloc),
+            request_bodies: BTreeMap::new(alloc),
+            headers: BTreeMap::new(alloc),
+            links: BTreeMap::new(alloc),
+            callbacks: BTreeMap::new(alloc),
+            path_items: BTreeMap::new(alloc),
+            media_types: BTreeMap::new(alloc),
+            security_schemes: BTreeMap::new(alloc),
+            extensions: None,
+        }
+    }
+
+    /// A builder that begins with no components. Takes no memory.
+    pub fn builder(alloc: Global) -> ComponentsBuilder
+        ensures { AreEmptyComponents (built_components result) }
+    {
+        ComponentsBuilder::new(alloc)
+    }
+
+    /// Puts a security scheme, or a reference to one, under its name, in place of an earlier one of that name.
+    ///
+    /// Fails where memory runs out, and then nothing has changed.
+    pub fn add_security_scheme(
+        &mut self,
+        name: String,
+        security_scheme: RefOr<SecurityScheme>,
+    ) -> Result<(), AllocError>
+        ensures ok { OnOk result (HoldSchemes (insert_entry string_cmp self.old.security_schemes.entries name security_scheme) self.old self.new) }
+        ensures err { OnErr result (HoldSchemes self.old.security_schemes.entries self.old self.new) }
+    {
+        drop(self.security_schemes.insert(name, security_scheme)?);
+        Ok(())
+    }
+
+    /// Puts each of the security schemes, or references to such, under its name, in place of an earlier one of that name. The
+    /// iterator has to end.
+    ///
+    /// Fails where memory runs out, and then nothing has changed.
+    pub fn add_security_schemes_from_iter<
+        I: Iterator<Item = (String, RefOr<SecurityScheme>)> + Drop,
+    >(&mut self, alloc: Global, security_schemes: I) -> Result<(), AllocError>
+        requires can { I.can_next security_schemes }
+        requires ends { IsFinite (I.remaining security_schemes) }
+        ensures ok { OnOk result ((given : Pairs (RefOr SecurityScheme)) × Drains I.next_gives security_schemes given
+            × HoldSchemes (put_each given self.old.security_schemes.entries) self.old self.new) }
+        ensures err { OnErr result (HoldSchemes self.old.security_schemes.entries self.old self.new) }
+    {
+        let mut later = BTreeMap::new(alloc);
+        put_each(&mut later, security_schemes)?;
+        put_all(&mut self.security_schemes, alloc, later)
+    }
+}
+
+/// Components, by their member table.
+impl Tree for Components {
+    ghost kind = { named components_object };
+
+    ghost doc = { components_doc };
+
+    ghost is_of_kind = { components_of_kind };
+
+    fn read_plain(
+        alloc: Global,
+        tree: &Value,
+        readings: &mut Readings,
+    ) -> Result<Components, ReadFault> {
+        let names = components_rows!(row_names!());
+        let (fields, extensions) = read_table(alloc, tree, "Components", names, readings)?;
+        Ok(components_rows!(from_fields!(Components, fields, extensions)))
+    }
+
+    fn to_value(&self, alloc: Global) -> Result<Value, AllocError> {
+        let names = components_rows!(row_names!());
+        let values = components_rows!(row_values!(self));
+        write_table(alloc, names, &values, &self.extensions)
+    }
+
+    fn print(&self, alloc: Global, out: &mut Writer) -> Result<(), AllocError> {
+        let names = components_rows_by_name!(row_names!());
+        let values = components_rows_by_name!(row_values!(self));
+        print_table(alloc, out, names, &values, &self.extensions)
+    }
+
+    fn try_clone(&self, alloc: Global) -> Result<Components, AllocError> {
+        components_rows!(clone_table!(Components, self, alloc))
+    }
+}

@@ -1,0 +1,8 @@
+//! The objects that the other parts of a document refer to: the components, which the module `schema` of the original crate has.
+#![tactic(auto)]
+
+mod builder;
+pub mod components;
+
+pub use builder::ComponentsBuilder;
+pub use components::Components;
