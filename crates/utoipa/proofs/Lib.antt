@@ -1,0 +1,2 @@
+pub mod PrettyTexts
+pub mod TextReadings

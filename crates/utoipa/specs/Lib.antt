@@ -1,0 +1,2 @@
+pub mod OpenApi
+pub mod Texts

@@ -1,0 +1,182 @@
+//! Building documents.
+ghost use Rattle.std.specs.Prelude.{◌≡◌, IfOk};
+ghost use Rattle.std.specs.Iterator.{IsFinite};
+ghost use Rattle.std.specs.Option.{ForSome};
+ghost use Rattle.utoipa_base.specs.Lists.{IsFilledIfAny};
+ghost use Rattle.utoipa.specs.OpenApi.{built_openapi, IsEmptyOpenApi};
+
+use crate::document::OpenApi;
+use std::alloc::{AllocError, Global};
+use utoipa_base::list_if_any;
+use utoipa_components::Components;
+use utoipa_leaf::external_docs::ExternalDocs;
+use utoipa_leaf::info::Info;
+use utoipa_leaf::server::Server;
+use utoipa_leaf::tag::Tag;
+use utoipa_leaf::version::OpenApiVersion;
+use utoipa_paths::Paths;
+use utoipa_security::security::SecurityRequirement;
+
+/// Builds an [`OpenApi`].
+#[derive(Debug, Drop)]
+pub struct OpenApiBuilder {
+    document: OpenApi,
+}
+
+impl OpenApiBuilder {
+    /// Begins with a document of OpenAPI 3.1 of the empty title and the empty version, with no paths and nothing else. Takes no memory.
+    pub fn new(alloc: Global) -> OpenApiBuilder
+        ensures { IsEmptyOpenApi (built_openapi result) }
+    {
+        let info = Info::new(String::new(alloc), String::new(alloc));
+        OpenApiBuilder {
+            document: OpenApi::new(alloc, info, Paths::new(alloc)),
+        }
+    }
+
+    /// Sets the version of the standard that the document follows.
+    pub fn openapi(mut self, openapi: OpenApiVersion) -> OpenApiBuilder
+        ensures { built_openapi result ≡ record (built_openapi self) { openapi = openapi } }
+    {
+        self.document.openapi = openapi;
+        self
+    }
+
+    /// Sets the metadata about the API.
+    pub fn info(mut self, info: Info) -> OpenApiBuilder
+        ensures { built_openapi result ≡ record (built_openapi self) { info = info } }
+    {
+        self.document.info = info;
+        self
+    }
+
+    /// Sets the servers at which the API is found. The iterator has to end.
+    ///
+    /// Fails where memory runs out, and then gives up what was built.
+    pub fn servers<I: Iterator<Item = Server> + Drop>(
+        mut self,
+        alloc: Global,
+        servers: Option<I>,
+    ) -> Result<OpenApiBuilder, AllocError>
+        requires can { ForSome servers (λ it. I.can_next it) }
+        requires ends { ForSome servers (λ it. IsFinite (I.remaining it)) }
+        ensures { IfOk result (λ b. (listed : _) × IsFilledIfAny I.next_gives servers listed
+            × (built_openapi b ≡ record (built_openapi self) { servers = listed })) }
+    {
+        self.document.servers = list_if_any(alloc, servers)?;
+        Ok(self)
+    }
+
+    /// Sets the paths of the API.
+    pub fn paths(mut self, paths: Paths) -> OpenApiBuilder
+        ensures { built_openapi result ≡ record (built_openapi self) { paths = paths } }
+    {
+        self.document.paths = paths;
+        self
+    }
+
+    /// Sets what the API may call by itself.
+    pub fn webhooks(mut self, webhooks: Option<Paths>) -> OpenApiBuilder
+        ensures { built_openapi result ≡ record (built_openapi self) { webhooks = webhooks } }
+    {
+        self.document.webhooks = webhooks;
+        self
+    }
+
+    /// Sets what references in the document name.
+    pub fn components(mut self, components: Option<Components>) -> OpenApiBuilder
+        ensures { built_openapi result ≡ record (built_openapi self) { components = components } }
+    {
+        self.document.components = components;
+        self
+    }
+
+    /// Sets the security requirements of all operations that have none of their own. The iterator has to end.
+    ///
+    /// Fails where memory runs out, and then gives up what was built.
+    pub fn security<I: Iterator<Item = SecurityRequirement> + Drop>(
+        mut self,
+        alloc: Global,
+        security: Option<I>,
+    ) -> Result<OpenApiBuilder, AllocError>
+        requires can { ForSome security (λ it. I.can_next it) }
+        requires ends { ForSome security (λ it. IsFinite (I.remaining it)) }
+        ensures { IfOk result (λ b. (listed : _) × IsFilledIfAny I.next_gives security listed
+            × (built_openapi b ≡ record (built_openapi self) { security = listed })) }
+    {
+        self.document.security = list_if_any(alloc, security)?;
+        Ok(self)
+    }
+
+    /// Sets what is to be said of tags. The iterator has to end.
+    ///
+    /// Fails where memory runs out, and then gives up what was built.
+    pub fn tags<I: Iterator<Item = Tag> + Drop>(
+        mut self,
+        alloc: Global,
+        tags: Option<I>,
+    ) -> Result<OpenApiBuilder, AllocError>
+        requires can { ForSome tags (λ it. I.can_next it) }
+        requires ends { ForSome tags (λ it. IsFinite (I.remaining it)) }
+        ensures { IfOk result (λ b. (listed : _) × IsFilledIfAny I.next_gives tags listed
+            × (built_openapi b ≡ record (built_openapi self) { tags = listed })) }
+    {
+        self.document.tags = list_if_any(alloc, tags)?;
+        Ok(self)
+    }
+
+    /// Sets the further documentation.
+    pub fn external_docs(mut self, external_docs: Option<ExternalDocs>) -> OpenApiBuilder
+        ensures { built_openapi result ≡ record (built_openapi self) { external_docs = external_docs } }
+    {
+        self.document.external_docs = external_docs;
+        self
+    }
+
+    /// Sets the dialect of the document's schemas.
+    pub fn json_schema_dialect(mut self, json_schema_dialect: Option<String>) -> OpenApiBuilder
+        ensures { built_openapi result ≡ record (built_openapi self) { json_schema_dialect = json_schema_dialect } }
+    {
+        self.document.json_schema_dialect = json_schema_dialect;
+        self
+    }
+
+    /// Sets the schema that the document follows, which is none where the text is empty.
+    pub fn schema(mut self, schema: String) -> OpenApiBuilder
+        ensures { built_openapi result ≡ record (built_openapi self) { schema = schema } }
+    {
+        self.document.schema = schema;
+        self
+    }
+
+    /// Sets the URI of the document itself.
+    pub fn self_uri(mut self, self_uri: Option<String>) -> OpenApiBuilder
+        ensures { built_openapi result ≡ record (built_openapi self) { self_uri = self_uri } }
+    {
+        self.document.self_uri = self_uri;
+        self
+    }
+
+    /// The document that was built.
+    pub fn build(self) -> OpenApi
+        ensures { result ≡ built_openapi self }
+    {
+        self.document
+    }
+}
+
+impl From<OpenApi> for OpenApiBuilder {
+    ghost from_gives = { λ document builder. built_openapi builder ≡ document };
+
+    fn from(document: OpenApi) -> OpenApiBuilder {
+        OpenApiBuilder { document }
+    }
+}
+
+impl From<OpenApiBuilder> for OpenApi {
+    ghost from_gives = { λ builder document. document ≡ built_openapi builder };
+
+    fn from(builder: OpenApiBuilder) -> OpenApi {
+        builder.build()
+    }
+}

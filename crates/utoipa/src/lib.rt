@@ -1,0 +1,10 @@
+//! OpenAPI documents under the paths of the original crate: [`openapi`] has the document and the modules of all that may stand in
+//! one. Here stands what reads and writes them.
+#![tactic(auto)]
+
+mod builder;
+mod document;
+pub mod openapi;
+mod text;
+
+pub use utoipa_base::{Counted, Number, ReadFault, Readings, Tree, has_fraction, laws, same_tree};

@@ -1,0 +1,68 @@
+//! Documents as JSON texts.
+ghost use Rattle.std.specs.Prelude.{◌≡◌, ◌≤◌, Some, false, IfOk, IfErr, string_bytes};
+ghost use Rattle.serde_json.specs.Data.{depth};
+ghost use Rattle.serde_json.specs.Read.{read as read_text, max_depth};
+ghost use Rattle.serde_json.specs.View.{view};
+ghost use Rattle.serde_json.specs.Written.{has_float, compact_text};
+ghost use Rattle.utoipa_base.specs.Writing.{write};
+ghost use Rattle.utoipa.specs.OpenApi.{openapi_doc};
+ghost use Rattle.utoipa.specs.Texts.{pretty_text, IsTextOf, RefusesText};
+
+use crate::document::OpenApi;
+use json::Writer;
+use serde_json::Value;
+use std::alloc::{AllocError, Global};
+use utoipa_base::{ReadFault, Tree};
+
+impl OpenApi {
+    /// The document of a JSON text.
+    ///
+    /// Fails with `Text` exactly where the text is no JSON, with `Fraction` exactly where a number of it is neither an `i64` nor a
+    /// `u64`, and else as [`Tree::from_value`] does of the text's tree; with `Memory`, which says nothing of the text, where memory
+    /// runs out.
+    pub fn from_json(alloc: Global, text: &str) -> Result<OpenApi, ReadFault>
+        ensures ok { IfOk result (λ document. IsTextOf (openapi_doc document) text.now) }
+        ensures err { IfErr result (RefusesText text.now) }
+    {
+        let tree = tree_of(alloc, text)?;
+        OpenApi::from_value(alloc, &tree)
+    }
+
+    /// The document as JSON in compact form, the members of each object in the order of their names.
+    ///
+    /// Of a document that holds a fraction, which is never read, the text of the fraction is not defined. Fails where memory runs out.
+    pub fn to_json(&self, alloc: Global) -> Result<String, AllocError>
+        ensures { IfOk result (λ text. has_float (write (openapi_doc self.now)) ≡ false
+            → string_bytes text ≡ compact_text (write (openapi_doc self.now))) }
+    {
+        let mut out = Writer::new(Vec::with_capacity(alloc, 128)?);
+        self.print(alloc, &mut out)?;
+        // What a writer of JSON has is UTF-8.
+        Ok(String::from_utf8(out.into_inner()).unwrap())
+    }
+
+    /// The document as JSON with a line for each item and member, two spaces deeper for each bracket round them, and the members of
+    /// each object in the order of their names.
+    ///
+    /// Of a document that holds a fraction, which is never read, the text of the fraction is not defined. Fails where memory runs out.
+    pub fn to_pretty_json(&self, alloc: Global) -> Result<String, AllocError>
+        ensures text { IfOk result (λ text. has_float (write (openapi_doc self.now)) ≡ false
+            → string_bytes text ≡ pretty_text (write (openapi_doc self.now))) }
+        ensures reads_back { IfOk result (λ text. depth (write (openapi_doc self.now)) ≤ max_depth
+            → read_text (string_bytes text) ≡ Some (write (openapi_doc self.now))) }
+    {
+        self.to_value(alloc)?.to_string_pretty(alloc)
+    }
+}
+
+// The tree of a text. Fails with `Text` where there is none, and with `Memory` where memory runs out.
+fn tree_of(alloc: Global, text: &str) -> Result<Value, ReadFault>
+    ensures ok { IfOk result (λ tree. read_text text.now ≡ Some (view tree)) }
+    ensures err { IfErr result (RefusesText text.now) }
+{
+    match Value::from_str(alloc, text) {
+        Ok(tree) => Ok(tree),
+        Err(error) if error.is_memory() => Err(ReadFault::Memory),
+        Err(_) => Err(ReadFault::Text),
+    }
+}
