@@ -52,32 +52,23 @@ macro_rules! row_values {
     };
 }
 
-/// A copy of a row's field.
-#[macro_export]
-macro_rules! row_copy {
-    (required, $alloc:expr, $value:expr) => { $value.try_clone($alloc)? };
-    (defaulted, $alloc:expr, $value:expr) => { $value.try_clone($alloc)? };
-    (optional, $alloc:expr, $value:expr) => { $crate::clone_option($alloc, &$value)? };
-    (or_null, $alloc:expr, $value:expr) => { $crate::clone_option($alloc, &$value)? };
-}
-
 /// The body of `try_clone` of a type with extensions.
 #[macro_export]
 macro_rules! clone_table {
-    ($type:ident, $self:expr, $alloc:expr; $($mark:ident $name:literal $field:ident,)*) => {
-        Ok($type {
-            $($field: $crate::row_copy!($mark, $alloc, $self.$field),)*
-            extensions: $crate::clone_extensions($alloc, &$self.extensions)?,
-        })
-    };
+    ($type:ident, $self:expr, $alloc:expr; $($mark:ident $name:literal $field:ident,)*) => {{
+        let extensions = $crate::clone_extensions($alloc, &$self.extensions)?;
+        let fields = $crate::table::RowValues::copy(&$crate::row_values!($self; $($mark $name $field,)*), $alloc)?;
+        Ok($crate::from_fields!($type, fields, extensions; $($mark $name $field,)*))
+    }};
 }
 
 /// The body of `try_clone` of a type that keeps no extensions.
 #[macro_export]
 macro_rules! clone_table_alone {
-    ($type:ident, $self:expr, $alloc:expr; $($mark:ident $name:literal $field:ident,)*) => {
-        Ok($type { $($field: $crate::row_copy!($mark, $alloc, $self.$field),)* })
-    };
+    ($type:ident, $self:expr, $alloc:expr; $($mark:ident $name:literal $field:ident,)*) => {{
+        let fields = $crate::table::RowValues::copy(&$crate::row_values!($self; $($mark $name $field,)*), $alloc)?;
+        Ok($crate::from_fields_alone!($type, fields; $($mark $name $field,)*))
+    }};
 }
 
 /// Whether a row's field holds a fraction.
