@@ -1,0 +1,6 @@
+pub mod Added
+pub mod KnownTexts
+pub mod Joining
+pub mod NewEntries
+pub mod Noted
+pub mod Walks
