@@ -54,7 +54,7 @@ pub fn nothing_added()
 
 /// A document is nested into another in one way at most, up to the order of the keys.
 pub fn nested_in_one_way()
-    ensures { (answers : List (List ℕ)) (own nested c d : Doc) → IsNested answers own nested c → IsNested answers own nested d
+    ensures { (answers : List (List ℕ)) (own nested c d : Doc) → IsOpenApi own → IsNested answers own nested c → IsNested answers own nested d
         → IsInKeyOrder c → IsInKeyOrder d → c ≡ d }
 {}
 

@@ -6,7 +6,7 @@ ghost use Rattle.utoipa_base.specs.Views.{map_of_docs};
 ghost use Rattle.utoipa_merging.specs.Merged.{IsInOrder};
 ghost use Rattle.utoipa_merging_parts.specs.Filled.{AreFilled, without};
 
-use crate::maps::{Names, fill_missing, take_back};
+use crate::maps::{Names, fill_noted, take_back};
 use std::alloc::{AllocError, Global};
 use std::collections::BTreeMap;
 use utoipa_base::Tree;
@@ -62,7 +62,7 @@ impl<T: Tree, R: Filling> Filling for (BTreeMap<String, T>, R) {
         later: (BTreeMap<String, T>, R),
     ) -> Result<(Names, R::Filled), AllocError> {
         let (map, others) = later;
-        let names = fill_missing(&mut self.0, alloc, map)?;
+        let names = fill_noted(&mut self.0, alloc, map)?;
         match self.1.fill(alloc, others) {
             Ok(filled) => Ok((names, filled)),
             Err(refused) => {

@@ -39,7 +39,7 @@ pub fn join_lists<T: Same>(
     alloc: Global,
     lists: Vec<Option<Vec<T>>>,
 ) -> Result<Option<Vec<T>>, AllocError>
-    requires plain { All (λ l. ForSome l (λ v. ArePlain T.doc v.items)) lists.items }
+    requires plain { All (λ l. IsPlain (option_of (list_of_docs T.doc) l)) lists.items }
     ensures { IfOk result (λ joined. IsListMerged (map (option_of (list_of_docs T.doc)) lists.items) (option_of (list_of_docs T.doc) joined)) }
 {
     let mut joined = None;
@@ -61,8 +61,8 @@ pub fn make_room<T: Same>(
     alloc: Global,
     later: Option<Vec<T>>,
 ) -> Result<Option<Vec<T>>, AllocError>
-    requires plain { ForSome own.old (λ v. ArePlain T.doc v.items) }
-    requires later_plain { ForSome later (λ v. ArePlain T.doc v.items) }
+    requires plain { IsPlain (option_of (list_of_docs T.doc) own.old) }
+    requires later_plain { IsPlain (option_of (list_of_docs T.doc) later) }
     ensures room { IfOk result (λ new. HasRoomFor own.new new) }
     ensures merged { IfOk result (λ new. (taken : _) → IsTaken own.new new taken
         → IsListMerged (option_of (list_of_docs T.doc) own.old ∷ option_of (list_of_docs T.doc) later ∷ []) (option_of (list_of_docs T.doc) taken)) }
@@ -104,7 +104,7 @@ fn join_if_any<T: Same>(
     list: Option<Vec<T>>,
 ) -> Result<Option<Joined<T>>, AllocError>
     requires sound { ForSome joined (IsSound T.doc) }
-    requires plain { ForSome list (λ v. ArePlain T.doc v.items) }
+    requires plain { IsPlain (option_of (list_of_docs T.doc) list) }
     ensures sound { IfOk result (λ all. ForSome all (IsSound T.doc)) }
     ensures joined { IfOk result (λ all. IsJoinedWith T.doc joined list all) }
 {

@@ -2,19 +2,19 @@
 ghost use Rattle.std.specs.Prelude.{◌≡◌, ℕ, List, IfOk, OnErr, OnOk, string_cmp};
 ghost use Rattle.std.specs.Option.{is_some, option_or};
 ghost use Rattle.std.specs.BTreeMap.{IsOrdered, get_by_text};
-ghost use Rattle.utoipa_merging.specs.Rules.{where_missing};
 ghost use Rattle.utoipa_merging_parts.specs.Filled.{without};
 
 use std::alloc::{AllocError, Global};
 use std::collections::BTreeMap;
 use utoipa_base::put_all;
+use utoipa_merging::keep_missing;
 
 /// Names of entries.
 pub(crate) type Names = BTreeMap<String, ()>;
 
 /// Puts each entry in whose name is not there yet, and answers the names that were put. Fails where memory runs out, and then nothing
 /// has changed, and the entries that were to be put are given up.
-pub(crate) fn fill_missing<T: Drop>(
+pub(crate) fn fill_noted<T: Drop>(
     map: &mut BTreeMap<String, T>,
     alloc: Global,
     later: BTreeMap<String, T>,
@@ -46,11 +46,4 @@ fn names_of<T: Drop>(alloc: Global, map: &BTreeMap<String, T>) -> Result<Names, 
         drop(names.insert(name.clone()?, ())?);
     }
     Ok(names)
-}
-
-// Keeps the entries whose names the other map lacks.
-fn keep_missing<T: Drop>(entries: &mut BTreeMap<String, T>, map: &BTreeMap<String, T>)
-    ensures { (name : List ℕ) → get_by_text entries.new name ≡ where_missing (get_by_text map.now name) (get_by_text entries.old name) }
-{
-    entries.retain(|name, _| !map.contains_key(name.as_str()));
 }

@@ -2,6 +2,7 @@ use Rattle.std.proofs.Common.{◌≡◌, ◌∙◌, map, ap, sym, subst}
 use Rattle.utoipa_merging_parts.specs.Lists.{IsSound, joined_docs, entry_doc}
 use Rattle.utoipa_merging.specs.Rules.{AreNew}
 use Rattle.utoipa_merging_parts.proofs.Joining.{none_sound, joined_with}
+use Rattle.utoipa_merging_parts.proofs.PlainItems.{list_plain}
 use Rattle.utoipa_merging_parts.proofs.lists.join_if_any.Goals as goal
 use Rattle.utoipa_merging_parts.proofs.lists.join_if_any.Goals.{in-Some-joined, in-None}
 
@@ -25,3 +26,6 @@ returns-clause-joined g c =
     ] in
     joined_with f c.args.joined c.args.list c.match-joined.joined c.in_ok-with_entries.field-0 c.in-Some.list (map (entry_doc f) c.in_ok-new.new.items) docs c.in-Some.is
     (subst (λ xs. AreNew (map f xs) (map f c.in-Some.list.items) (map (entry_doc f) c.in_ok-new.new.items)) c.deref.ensures.value c.in_ok-new.ensures.new) c.in_ok-with_entries.ensures.entries
+
+pub new_entries-requires-clause-plain : goal.new_entries-requires-clause-plain
+new_entries-requires-clause-plain g c = list_plain g.T.Tree.doc c.args.list c.in-Some.list c.requires.plain c.in-Some.is

@@ -7,7 +7,7 @@ use Rattle.utoipa_merging.proofs.Filled.{missing_put}
 use Rattle.utoipa_merging.proofs.Lookups.{found}
 use Rattle.utoipa_merging.proofs.PutEach.{found-put_each, sorted-put_each}
 use Rattle.utoipa_merging_parts.proofs.Noted.{goes_back}
-use Rattle.utoipa_merging_parts.proofs.maps.fill_missing.Goals as goal
+use Rattle.utoipa_merging_parts.proofs.maps.fill_noted.Goals as goal
 
 pub returns-clause-ok : goal.returns-clause-ok
 returns-clause-ok g c =
