@@ -1,1 +1,2 @@
+pub mod FilledMaps
 pub mod PutTwice
