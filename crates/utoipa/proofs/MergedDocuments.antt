@@ -12,12 +12,16 @@ use Rattle.utoipa_components.specs.Components.{components_doc}
 use Rattle.utoipa_components.specs.Filled.{AreComponentsInOrder}
 use Rattle.utoipa_leaf.specs.Server.{server_doc}
 use Rattle.utoipa_leaf.specs.Tag.{tag_doc}
+use Rattle.utoipa_leaf.specs.declared.server.Server.{Server}
+use Rattle.utoipa_leaf.specs.declared.tag.Tag.{Tag}
 use Rattle.utoipa_security.specs.Requirement.{requirement_doc}
 use Rattle.utoipa_merging.specs.Merged.{IsListMerged, ArePathsMerged, AreComponentsMerged, IsMerged, IsInKeyOrder, ArePathsInOrder}
 use Rattle.utoipa_merging.specs.Slots.{Joined, servers_joined, security_joined, tags_joined, joined_of, items_in, paths_of, components_of, fixed_members, parts}
 use Rattle.utoipa_merging.proofs.JoinedLists.{all_in, not_in_none, in_head, in_tail, in_cases, joined_is_entry}
 use Rattle.utoipa_merging.proofs.MapViews.{items_in-list}
 use Rattle.utoipa_paths.specs.Paths.{paths_doc}
+use Rattle.utoipa_security.specs.declared.security.requirement.SecurityRequirement.{SecurityRequirement}
+use Rattle.utoipa_security.proofs.Requirement.{requirement_whole}
 use Rattle.utoipa.specs.Merging.{lists_have_fraction}
 use Rattle.utoipa.specs.OpenApi.{openapi_doc, openapi_of_kind}
 use Rattle.utoipa.specs.declared.document.OpenApi.{OpenApi}
@@ -65,11 +69,11 @@ in_key_order d paths components = record { paths = paths; components = component
 
 -- ---- fractions in lists
 
-or_first : (a b : Bool) → (a || b) ≡ false → a ≡ false
+pub or_first : (a b : Bool) → (a || b) ≡ false → a ≡ false
 or_first false b h = refl
 or_first true b h = cc
 
-or_second : (a b : Bool) → (a || b) ≡ false → b ≡ false
+pub or_second : (a b : Bool) → (a || b) ≡ false → b ≡ false
 or_second false b h = h
 or_second true b h = cc
 
@@ -142,8 +146,16 @@ merged_plain ds d h m =
     same_lists : {X : Type 0} (f : X → Doc) (field : OpenApi → Option (Vec X Global)) (j : Joined) → ((e : OpenApi) → joined_of j (openapi_doc e) ≡ list_doc_of f (field e)) → map (joined_of j) (map openapi_doc ds) ≡ map (list_doc_of f) (map field ds)
     same_lists f field j each = map-map (joined_of j) openapi_doc ds ∙ maps_agree (λ e. joined_of j (openapi_doc e)) (λ e. list_doc_of f (field e)) each ds ∙ sym (map-map (list_doc_of f) field ds)
 
-    servers : (l : Option (Vec _ Global)) → Contains (map (λ e. e.servers) ds) l → IsPlain (list_doc_of server_doc l)
-    servers l c = let r = in_map (λ e. e.servers) ds l c in subst (λ k. IsPlain (list_doc_of server_doc k)) r.2 (or_first _ _ (each_plain ds h r.0 r.1))
+    servers : (l : Option (Vec Server Global)) → Contains (map (λ e. e.servers) ds) l → IsPlain (list_doc_of server_doc l)
+    servers l c = let r = in_map (λ e. e.servers) ds l c in subst (λ k. IsPlain (list_doc_of server_doc k)) r.2 (or_first (has_fraction (joined_of servers_joined (openapi_doc r.0))) (has_fraction (joined_of tags_joined (openapi_doc r.0))) (each_plain ds h r.0 r.1))
 
-    tags : (l : Option (Vec _ Global)) → Contains (map (λ e. e.tags) ds) l → IsPlain (list_doc_of tag_doc l)
-    tags l c = let r = in_map (λ e. e.tags) ds l c in subst (λ k. IsPlain (list_doc_of tag_doc k)) r.2 (or_second _ _ (each_plain ds h r.0 r.1))
+    tags : (l : Option (Vec Tag Global)) → Contains (map (λ e. e.tags) ds) l → IsPlain (list_doc_of tag_doc l)
+    tags l c = let r = in_map (λ e. e.tags) ds l c in subst (λ k. IsPlain (list_doc_of tag_doc k)) r.2 (or_second (has_fraction (joined_of servers_joined (openapi_doc r.0))) (has_fraction (joined_of tags_joined (openapi_doc r.0))) (each_plain ds h r.0 r.1))
+
+-- a security requirement holds no number
+pub requirements_plain : (l : Option (Vec SecurityRequirement Global)) → IsPlain (list_doc_of requirement_doc l)
+requirements_plain l = plain-list_doc requirement_doc l (each l)
+  where
+    each : (m : Option (Vec SecurityRequirement Global)) (x : Doc) → Contains (items_in (list_doc_of requirement_doc m)) x → IsPlain x
+    each None x c = absurd (not_in_none x c)
+    each (Some v) x c = let r = in_map requirement_doc v.items x (subst (λ ds. Contains ds x) (items_in-list requirement_doc v) c) in subst IsPlain r.2 (requirement_whole r.0)

@@ -66,8 +66,8 @@ fn merge_pairs(alloc: Global, bracketing: Bracketing) -> Result<OpenApi, AllocEr
     match bracketing {
         Bracketing::Leaf(document) => Ok(document),
         Bracketing::Join(left, right) => {
-            let mut merged = merge_pairs(alloc, *left)?;
-            merged.merge_plain(alloc, merge_pairs(alloc, *right)?)?;
+            let mut merged = merge_pairs(alloc, Box::into_inner(left))?;
+            merged.merge_plain(alloc, merge_pairs(alloc, Box::into_inner(right))?)?;
             Ok(merged)
         }
     }

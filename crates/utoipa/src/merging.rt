@@ -10,7 +10,7 @@ ghost use Rattle.utoipa.specs.OpenApi.{openapi_doc};
 ghost use Rattle.utoipa.specs.declared.merging.MergeFault.TheVariants.{Memory, Fraction, Composer};
 
 use crate::document::OpenApi;
-use std::alloc::{AllocError, Global};
+use std::alloc::{AllocError, AllocFailed, Global};
 use thiserror::Error;
 use utoipa_base::option_has_fraction;
 use utoipa_components::{Components, fill_components, take_back_components};
@@ -36,6 +36,14 @@ impl From<AllocError> for MergeFault {
     ghost from_gives = { λ _ fault. fault ≡ Memory };
 
     fn from(_error: AllocError) -> MergeFault {
+        MergeFault::Memory
+    }
+}
+
+impl<T: Drop> From<AllocFailed<T>> for MergeFault {
+    ghost from_gives = { λ _ fault. fault ≡ Memory };
+
+    fn from(_error: AllocFailed<T>) -> MergeFault {
         MergeFault::Memory
     }
 }

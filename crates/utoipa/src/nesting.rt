@@ -1,5 +1,5 @@
 //! Nesting a document into another: its paths are put where a composer of paths says, and the rest is merged.
-ghost use Rattle.std.specs.Prelude.{◌≡◌, ◌∷◌, ◌++◌, ◌↔◌, ◌||◌, ℕ, List, true, map, IfOk, IsErrOf, OnOk};
+ghost use Rattle.std.specs.Prelude.{◌≡◌, ◌∷◌, ◌++◌, ◌↔◌, ◌||◌, ℕ, List, true, map, IfOk, IsErrOf, OnOk, string_bytes};
 ghost use Rattle.std.specs.Map.{keys_of};
 ghost use Rattle.utoipa_base.specs.Views.{map_of_docs};
 ghost use Rattle.utoipa_merging.specs.Merged.{IsInKeyOrder};
@@ -60,12 +60,12 @@ impl OpenApi {
             return Err(MergeFault::Fraction);
         }
         let mut document = self;
-        let nested = other.paths.paths;
+        let nested = other.paths;
         let rest = OpenApi {
             paths: Paths::new(alloc),
             ..other
         };
-        mount(&mut document.paths.paths, base, nested, &composer)?;
+        mount(&mut document.paths.paths, base, nested.paths, &composer)?;
         document.merge_plain(alloc, rest)?;
         Ok(document)
     }
