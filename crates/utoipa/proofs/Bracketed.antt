@@ -5,7 +5,7 @@ use Rattle.std.proofs.lemmas.List.{map-append, length-append}
 use Rattle.std.proofs.lemmas.List.Folds.{list_any-append}
 use Rattle.utoipa_merging.specs.Merged.{IsMerged}
 use Rattle.utoipa_merging.proofs.Composition.{merged_composes, merged_one}
-use Rattle.utoipa.specs.Merging.{lists_have_fraction, leaves_of}
+use Rattle.utoipa.specs.Merging.{lists_have_fraction, any_list_has_fraction, leaves_of}
 use Rattle.utoipa.specs.OpenApi.{openapi_doc, openapi_of_kind}
 use Rattle.utoipa.specs.declared.bracketing.Bracketing.{Bracketing}
 use Rattle.utoipa.specs.declared.bracketing.Bracketing.TheVariants.{Leaf, Join'}
@@ -52,3 +52,25 @@ left_fewer whole left right is = let some = some_leaf right in let both = ap len
 
 pub right_fewer : (whole : List OpenApi) (left right : Bracketing) → whole ≡ leaves_of left ++ leaves_of right → length (leaves_of right) < length whole
 right_fewer whole left right is = let some = some_leaf left in let both = ap length is ∙ length-append (leaves_of left) (leaves_of right) in omega arith
+
+-- ---- documents of which there are at least two
+
+not_alone : (b : Bracketing) → ((x : OpenApi) → b ≡ Leaf x → ⊥) → (d : OpenApi) → leaves_of b ≡ d ∷ [] → ⊥
+not_alone (Leaf x) other d is = other x refl
+not_alone (Join' p left q right) other d is =
+    let some = some_leaf left in
+    let more = some_leaf right in
+    let both = sym (length-append (leaves_of left) (leaves_of right)) ∙ ap length is in
+    omega arith
+
+-- brackets that are no leaf have no one document
+pub no_leaf : (b : Bracketing) → ((x : OpenApi) → b ≡ Leaf x → ⊥) → (P : OpenApi → Type 0) → (d : OpenApi) → leaves_of b ≡ d ∷ [] → P d
+no_leaf b other P d is = absurd (not_alone b other d is)
+
+any_of_list : (ds : List OpenApi) → ((d : OpenApi) → ds ≡ d ∷ [] → ⊥) → any_list_has_fraction (map openapi_doc ds) ≡ any_fraction ds
+any_of_list [] several = refl
+any_of_list (d ∷ []) several = absurd (several d refl)
+any_of_list (d ∷ e ∷ ds) several = refl
+
+pub any_of_brackets : (b : Bracketing) → ((x : OpenApi) → b ≡ Leaf x → ⊥) → any_list_has_fraction (map openapi_doc (leaves_of b)) ≡ any_fraction (leaves_of b)
+any_of_brackets b other = any_of_list (leaves_of b) (not_alone b other)
