@@ -1,6 +1,7 @@
 //! Merging any number of documents: pair by pair as brackets say, or all at once.
 ghost use Rattle.std.specs.Prelude.{◌≡◌, ◌∷◌, ◌++◌, ◌↔◌, [], List, None, Some, true, false, map, Ok, IfOk, IsErrOf, IfSome, OnOk};
 ghost use Rattle.std.specs.List.{AllByRecursion, list_any};
+ghost use Rattle.std.specs.Vec.Iter.{into_iter_items};
 ghost use Rattle.utoipa_merging.specs.Merged.{IsInKeyOrder, IsMerged};
 ghost use Rattle.utoipa_merging.specs.Slots.{fixed_members, parts};
 ghost use Rattle.utoipa.specs.Merging.{lists_have_fraction, any_list_has_fraction, leaves_of, ArePartsOf, ArePartsPlain};
@@ -10,6 +11,7 @@ ghost use Rattle.utoipa.specs.declared.merging.MergeFault.TheVariants.{Memory, F
 use crate::document::OpenApi;
 use crate::merging::MergeFault;
 use std::alloc::{AllocError, Global};
+use std::vec::IntoIter;
 use utoipa_components::{Components, merge_components};
 use utoipa_leaf::server::Server;
 use utoipa_leaf::tag::Tag;
@@ -97,12 +99,25 @@ pub fn merge_all(alloc: Global, documents: Vec<OpenApi>) -> Result<Option<OpenAp
     if documents.len() == 0 {
         return Ok(Some(first));
     }
+    Ok(Some(merge_behind(alloc, first, documents)?))
+}
+
+// The first document, with the others merged into it at once.
+fn merge_behind(
+    alloc: Global,
+    first: OpenApi,
+    others: IntoIter<OpenApi>,
+) -> Result<OpenApi, AllocError>
+    requires plain { list_any lists_have_fraction (map openapi_doc (first ∷ into_iter_items others)) ≡ false }
+    ensures ok { IfOk result (λ merged. IsMerged (map openapi_doc (first ∷ into_iter_items others)) (openapi_doc merged)) }
+    ensures ordered { IfOk result (λ merged. AllByRecursion (λ d. IsInKeyOrder (openapi_doc d)) (first ∷ into_iter_items others) → IsInKeyOrder (openapi_doc merged)) }
+{
     let mut parts = Parts::new(alloc);
     let fixed = parts.take(alloc, first)?;
-    for document in documents {
+    for document in others {
         drop(parts.take(alloc, document)?);
     }
-    Ok(Some(parts.merged(alloc, fixed)?))
+    parts.merged(alloc, fixed)
 }
 
 /// The parts of documents that are merged, of each document in turn.
