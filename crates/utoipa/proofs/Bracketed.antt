@@ -1,5 +1,5 @@
 -- Documents in brackets, merged pair by pair.
-use Rattle.std.proofs.Common.{◌≡◌, ◌<◌, List, [], ◌∷◌, ◌++◌, length, Bool, true, false, ◌||◌, map, refl, sym, ap, ◌∙◌, subst, arith}
+use Rattle.std.proofs.Common.{◌≡◌, ◌<◌, ◌≤◌, List, [], ◌∷◌, ◌++◌, length, Bool, true, false, ◌||◌, map, refl, sym, ap, ◌∙◌, subst, arith}
 use Rattle.std.specs.List.{AllByRecursion, list_any}
 use Rattle.std.proofs.lemmas.List.{map-append, length-append}
 use Rattle.std.proofs.lemmas.List.Folds.{list_any-append}
@@ -74,3 +74,14 @@ any_of_list (d ∷ e ∷ ds) several = refl
 
 pub any_of_brackets : (b : Bracketing) → ((x : OpenApi) → b ≡ Leaf x → ⊥) → any_list_has_fraction (map openapi_doc (leaves_of b)) ≡ any_fraction (leaves_of b)
 any_of_brackets b other = any_of_list (leaves_of b) (not_alone b other)
+
+-- documents of which none has a fraction in a list, or of which there is at most one
+pub any_list_none : (ds : List OpenApi) → any_fraction ds ≡ false → any_list_has_fraction (map openapi_doc ds) ≡ false
+any_list_none [] h = refl
+any_list_none (d ∷ []) h = refl
+any_list_none (d ∷ e ∷ ds) h = h
+
+pub any_list_short : (ds : List OpenApi) → length ds ≤ 1 → any_list_has_fraction (map openapi_doc ds) ≡ false
+any_list_short [] short = refl
+any_list_short (d ∷ []) short = refl
+any_list_short (d ∷ e ∷ ds) short = absurd (omega (arith, short))
