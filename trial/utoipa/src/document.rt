@@ -1,0 +1,69 @@
+//! Stand-in.
+use std::alloc::Global;
+use utoipa_base::Extensions;
+use utoipa_components::Components;
+use utoipa_leaf::external_docs::ExternalDocs;
+use utoipa_leaf::info::Info;
+use utoipa_leaf::server::Server;
+use utoipa_leaf::tag::Tag;
+use utoipa_leaf::version::OpenApiVersion;
+use utoipa_paths::Paths;
+use utoipa_security::security::SecurityRequirement;
+
+/// An OpenAPI Object (OpenAPI 3.1, section 4.8.1): the root of a document that describes an API.
+#[derive(Drop)]
+pub struct OpenApi {
+    /// The version of the standard that the document follows.
+    pub openapi: OpenApiVersion,
+    /// Metadata about the API.
+    pub info: Info,
+    /// The servers at which the API is found.
+    pub servers: Option<Vec<Server>>,
+    /// The paths of the API, with their operations. The standard lets a document leave them out; here they are asked for.
+    pub paths: Paths,
+    /// What the API may call by itself, by names that are no paths.
+    pub webhooks: Option<Paths>,
+    /// What references in the document name.
+    pub components: Option<Components>,
+    /// The security requirements of all operations that have none of their own: one of them has to be met.
+    pub security: Option<Vec<SecurityRequirement>>,
+    /// What is to be said of tags that operations bear.
+    pub tags: Option<Vec<Tag>>,
+    /// Further documentation of the API: the member `externalDocs`.
+    pub external_docs: Option<ExternalDocs>,
+    /// A URI of the dialect of the document's schemas that name none: the member `jsonSchemaDialect`.
+    pub json_schema_dialect: Option<String>,
+    /// A URI of the schema that the document follows, which the standard does not have: the member `$schema`. It is left out where it
+    /// is empty.
+    pub schema: String,
+    /// A URI of the document itself, from OpenAPI 3.2 on: the member `$self`.
+    pub self_uri: Option<String>,
+    /// Specification extensions.
+    pub extensions: Option<Extensions>,
+}
+
+impl OpenApi {
+    ghost use Rattle.utoipa.specs.OpenApi.{IsOpenApiOf};
+
+    /// A document of OpenAPI 3.1 with its info and its paths, with nothing else. Takes no memory.
+    pub fn new(alloc: Global, info: Info, paths: Paths) -> OpenApi
+        ensures { IsOpenApiOf info paths result }
+    {
+        OpenApi {
+            openapi: OpenApiVersion::Version31,
+            info,
+            servers: None,
+            paths,
+            webhooks: None,
+            components: None,
+            security: None,
+            tags: None,
+            external_docs: None,
+            json_schema_dialect: None,
+            schema: String::new(alloc),
+            self_uri: None,
+            extensions: None,
+        }
+    }
+
+}

@@ -1,0 +1,6 @@
+//! Stand-in.
+#![tactic(auto)]
+
+pub mod types;
+
+pub use types::PathItem;
