@@ -1,12 +1,12 @@
 #!/usr/bin/env python3
 """Finds the least stack in which schemas, encodings, headers and callbacks as deep as a text can be are read, copied, written and dropped.
 
-usage: bench/stack.py      after `rt run < stdin` in crates/utoipa_cases
+usage: bench/stack.py      after `rt run < stdin` in crates/utoipa_cases and in crates/utoipa_document_cases
 
 A text nests 127 objects and lists. Each input nests schemas so deep in one of the nine members that hold schemas, encodings in one of
 the three that hold encodings, headers in encodings in contents of headers, or operations in callbacks of operations. The command
-`utoipa_doc schema` reads, writes and drops a schema; the cases `read TYPE` of `utoipa_cases` copy too. The case `callbacks` builds
-operations in more callbacks than a text can nest. Each figure is in KiB, to the next 4; the default stack has 8192.
+`utoipa_doc schema` reads, writes and drops a schema; the cases `read TYPE` copy too. The case `callbacks` builds operations in more
+callbacks than a text can nest. Each figure is in KiB, to the next 4; the default stack has 8192.
 """
 import os
 import resource
@@ -15,7 +15,15 @@ import sys
 
 HERE = os.path.dirname(os.path.abspath(__file__))
 COMMAND = os.path.join(HERE, "..", "utoipa_doc")
-CASES = os.path.join(HERE, "..", "crates", "utoipa_cases", "out", "utoipa_cases")
+
+
+def program_of_cases(name):
+    return os.path.join(HERE, "..", "crates", name, "out", name)
+
+
+CASES = program_of_cases("utoipa_cases")
+# The program that knows operations.
+DOCUMENT_CASES = program_of_cases("utoipa_document_cases")
 
 # A member, what opens a level of it, what closes it, and how many levels there are.
 MEMBERS = (
@@ -30,13 +38,13 @@ MEMBERS = (
     ("anyOf", '{"anyOf":[', "]}", 63),
 )
 
-# The same of values that the command does not read, each with its type, and what is innermost.
+# The same of values that the command does not read, each with its program, its type, and what is innermost.
 HELD = (
-    ("Encoding", "itemEncoding", '{"itemEncoding":', "}", 126, "{}"),
-    ("Encoding", "encoding", '{"encoding":{"a":', "}}", 63, "{}"),
-    ("Encoding", "prefixEncoding", '{"prefixEncoding":[', "]}", 63, "{}"),
-    ("Header", "content", '{"content":{"a":{"encoding":{"b":{"headers":{"c":', "}}}}}}", 21, "{}"),
-    ("Operation", "callbacks", '{"callbacks":{"c":{"e":{"get":', '}}},"responses":{}}', 31, '{"responses":{}}'),
+    (CASES, "Encoding", "itemEncoding", '{"itemEncoding":', "}", 126, "{}"),
+    (CASES, "Encoding", "encoding", '{"encoding":{"a":', "}}", 63, "{}"),
+    (CASES, "Encoding", "prefixEncoding", '{"prefixEncoding":[', "]}", 63, "{}"),
+    (CASES, "Header", "content", '{"content":{"a":{"encoding":{"b":{"headers":{"c":', "}}}}}}", 21, "{}"),
+    (DOCUMENT_CASES, "Operation", "callbacks", '{"callbacks":{"c":{"e":{"get":', '}}},"responses":{}}', 31, '{"responses":{}}'),
 )
 
 # How many callbacks, one in the other, are built.
@@ -69,27 +77,28 @@ def least_stack(is_enough):
     return high
 
 
-def case_stack(type, text):
-    """The least stack in which the program of cases reads, copies, writes and drops a value of the type."""
+def case_stack(program, type, text):
+    """The least stack in which a program of cases reads, copies, writes and drops a value of the type."""
     asked = b"read " + type.encode() + b"\t" + text
-    return least_stack(lambda kib: answers([CASES], asked, text, kib))
+    return least_stack(lambda kib: answers([program], asked, text, kib))
 
 
 def main():
-    if not os.path.isfile(CASES):
-        sys.exit("no program of cases: run `rt run < stdin` in crates/utoipa_cases first")
+    for program in (CASES, DOCUMENT_CASES):
+        if not os.path.isfile(program):
+            sys.exit("no program of cases: run `rt run < stdin` in crates/%s first" % os.path.basename(program))
     print("| Member | Levels | Read, written and dropped (KiB) | Copied too |")
     print("|---|---|---|---|")
     for name, begin, end, levels in MEMBERS:
         text = (begin * levels + "{}" + end * levels + "\n").encode()
         command = least_stack(lambda kib: answers([COMMAND, "schema"], text, text, kib))
-        print("| `%s` | %d | %d | %d |" % (name, levels, command, case_stack("Schema", text)), flush=True)
-    for type, name, begin, end, levels, innermost in HELD:
+        print("| `%s` | %d | %d | %d |" % (name, levels, command, case_stack(CASES, "Schema", text)), flush=True)
+    for program, type, name, begin, end, levels, innermost in HELD:
         text = (begin * levels + innermost + end * levels + "\n").encode()
-        print("| %s, `%s` | %d | | %d |" % (type, name, levels, case_stack(type, text)), flush=True)
+        print("| %s, `%s` | %d | | %d |" % (type, name, levels, case_stack(program, type, text)), flush=True)
     for levels in BUILT:
         asked = b"callbacks\t%d\n" % levels
-        stack = least_stack(lambda kib: answers([CASES], asked, b"true\n", kib))
+        stack = least_stack(lambda kib: answers([DOCUMENT_CASES], asked, b"true\n", kib))
         print("| Operation, `callbacks`, built | %d | | %d |" % (levels, stack), flush=True)
 
 

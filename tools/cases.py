@@ -1,9 +1,9 @@
 #!/usr/bin/env python3
-"""Writes the cases of crates/utoipa_cases, its files stdin and stdout, which `rt ci` runs and compares.
+"""Writes the cases of each program of cases, its files stdin and stdout, which `rt ci` runs and compares.
 
 usage: tools/cases.py [--check]      with --check: writes nothing, and ends with status 1 where a file isn't as it should be
 
-Cases written by hand are in crates/utoipa_cases/tables/*.txt:
+Cases written by hand are in tables/*.txt of each program's folder, as crates/utoipa_cases/tables:
 
     # what the next cases show               printed as it is, in both files
     CALL                                     the call of the next cases, at the beginning of a line
@@ -18,6 +18,8 @@ The sweeps over the member tables are made here, from the tables of docs/FORMAT.
 with a value that fits, absent, null, and with a value of another kind, on the smallest document of its type.
 What is expected is the rule of the member's mark. Each type that keeps extensions is printed with extensions of any names;
 what is expected is the object of all members, in the order of the bytes of their names, where the type's own member wins.
+
+Each file of examples/ is read as its type. It has no member that is dropped or left out, so what is expected is its own tree.
 """
 import ast
 import glob
@@ -27,11 +29,14 @@ import re
 import sys
 
 ROOT = os.path.dirname(os.path.dirname(os.path.abspath(__file__)))
-CRATE = os.path.join(ROOT, "crates", "utoipa_cases")
+
+# The programs of cases. Of the types of docs/FORMAT.md, the second knows those of DOCUMENT_TYPES, and the first all others.
+PROGRAMS = ("utoipa_cases", "utoipa_document_cases", "utoipa_command_cases")
+DOCUMENT_TYPES = ("Operation", "PathItem", "Callback", "Paths", "Components", "OpenApi")
 
 
 class Cases:
-    """The lines of both files."""
+    """The lines of both files of a program."""
 
     def __init__(self):
         self.asked, self.answered = [], []
@@ -108,8 +113,8 @@ def words_of(text):
 
 # The types that are built and read by a table of their own. MutualTls serves a variant of SecurityScheme.
 SWEPT = """Ref Info Contact License ExternalDocs Server ServerVariable Tag Xml Example Content Encoding Header Link RequestBody
-    Response Parameter Operation PathItem Object Array OneOf AllOf AnyOf Discriminator ApiKeyValue Http OpenIdConnect MutualTls OAuth2
-    Scopes Implicit Password ClientCredentials AuthorizationCode DeviceAuthorization""".split()
+    Response Parameter Operation PathItem OpenApi Components Object Array OneOf AllOf AnyOf Discriminator ApiKeyValue Http OpenIdConnect
+    MutualTls OAuth2 Scopes Implicit Password ClientCredentials AuthorizationCode DeviceAuthorization""".split()
 
 WITHOUT_EXTENSIONS = ("Ref", "Xml", "Scopes")
 
@@ -129,7 +134,9 @@ PLAIN = {
     "flows": ({"k": {"scopes": {}, "tokenUrl": "t"}}, 5, "kind"),
     "Responses": ({"200": {"description": "d"}}, 5, "kind"),
     "Callback": ({"e": {"summary": "s"}}, 5, "kind"),
+    "Paths": ({"/p": {"summary": "s"}}, 5, "kind"),
     "SecurityRequirement": ({"k": ["s"]}, 5, "kind"),
+    "SecurityScheme": ({"type": "mutualTLS"}, 5, "kind"),
 }
 
 
@@ -301,38 +308,79 @@ def add_trees(cases, name):
         cases.add("read " + name, text_of(tree), "refused: kind")
 
 
-def all_cases():
+# The type of each file of examples/.
+EXAMPLES = {"schema.json": "RefOr<Schema>", "server.json": "Server", "shop.json": "OpenApi", "shop-3.2.json": "OpenApi"}
+
+
+def add_examples(cases_of):
+    for name, type in EXAMPLES.items():
+        with open(os.path.join(ROOT, "examples", name), encoding="utf-8") as text:
+            tree = json.load(text)
+        cases = cases_of(type)
+        cases.say("# examples/%s" % name)
+        cases.add("read " + type, json.dumps(tree, separators=(",", ":"), ensure_ascii=False), text_of(tree))
+
+
+def folder_of(program):
+    return os.path.join(ROOT, "crates", program)
+
+
+def by_hand(program):
+    """The cases of a program's tables."""
     cases = Cases()
-    for file in sorted(glob.glob(os.path.join(CRATE, "tables", "*.txt"))):
+    for file in sorted(glob.glob(os.path.join(folder_of(program), "tables", "*.txt"))):
         with open(file, encoding="utf-8") as lines:
             add_by_hand(cases, lines.read().rstrip("\n").split("\n"), file)
-    with open(os.path.join(ROOT, "docs", "FORMAT.md"), encoding="utf-8") as text:
-        form = Format(text.read())
-    for name in SWEPT:
-        sweep = Sweep(cases, form, name)
-        sweep.add()
-        add_trees(cases, sweep.type)
-    for printed in PRINTED:
-        Printing(cases, form, *printed).add()
-    for name, words in form.words.items():
-        if name != "OpenApiVersion":
-            add_words(cases, name, words)
     return cases
 
 
+def add_made(cases_of):
+    """Adds the cases that are made here, each type's to the cases of the program that knows it."""
+    with open(os.path.join(ROOT, "docs", "FORMAT.md"), encoding="utf-8") as text:
+        form = Format(text.read())
+    add_examples(cases_of)
+    for name in SWEPT:
+        sweep = Sweep(cases_of(name), form, name)
+        sweep.add()
+        add_trees(sweep.cases, sweep.type)
+    for name, type, fixed in PRINTED:
+        Printing(cases_of(type), form, name, type, fixed).add()
+    for name, words in form.words.items():
+        if name != "OpenApiVersion":
+            add_words(cases_of(name), name, words)
+
+
+def all_cases():
+    """The cases of each program."""
+    cases = {program: by_hand(program) for program in PROGRAMS}
+    add_made(lambda type: cases["utoipa_document_cases" if type in DOCUMENT_TYPES else "utoipa_cases"])
+    return cases
+
+
+def is_as_written(file, text):
+    with open(file, encoding="utf-8") as it:
+        return it.read() == text
+
+
+def write(file, text):
+    with open(file, "w", encoding="utf-8") as it:
+        it.write(text)
+
+
 def main():
-    cases, check, stale = all_cases(), "--check" in sys.argv[1:], False
-    for name, lines in (("stdin", cases.asked), ("stdout", cases.answered)):
-        file, text = os.path.join(CRATE, name), "\n".join(lines) + "\n"
-        if not check:
-            with open(file, "w", encoding="utf-8") as it:
-                it.write(text)
-        else:
-            with open(file, encoding="utf-8") as it:
-                if it.read() != text:
-                    print("%s isn't what tools/cases.py writes" % file)
-                    stale = True
-    print("%d cases" % sum(not it.startswith("#") and it != "" for it in cases.asked))
+    check, stale, total = "--check" in sys.argv[1:], False, 0
+    for program, cases in all_cases().items():
+        for name, lines in (("stdin", cases.asked), ("stdout", cases.answered)):
+            file, text = os.path.join(folder_of(program), name), "\n".join(lines) + "\n"
+            if not check:
+                write(file, text)
+            elif not is_as_written(file, text):
+                print("%s isn't what tools/cases.py writes" % file)
+                stale = True
+        count = sum(not it.startswith("#") and it != "" for it in cases.asked)
+        print("%4d cases of %s" % (count, program))
+        total += count
+    print("%4d cases" % total)
     return 1 if stale else 0
 
 

@@ -30,12 +30,26 @@ COMMANDS = [
     (["server"], "crates/utoipa_doc/stdin", "crates/utoipa_doc/stdout"),
     (["server"], "examples/server.json", None),
     (["schema"], "examples/schema.json", None),
+    (["document"], "examples/shop.json", None),
+    (["document"], "examples/shop-3.2.json", None),
+]
+
+# The same of an input that is in no file: the words, the input, and the answer.
+COMMANDS_ON_TEXTS = [
+    (
+        ["document"],
+        '{"openapi":"3.1.x.0","info":{"title":"t","version":"1"},"paths":{"x-team":"a","/a":{}}}',
+        '{"info":{"title":"t","version":"1"},"openapi":"3.1.0","paths":{"/a":{},"x-team":"a"}}\n',
+    ),
 ]
 
 # The command says that memory was refused, and nothing else.
 COMMAND_TELLS = [Outcome(1, "", "refused: memory\n")]
 
-# ---- The calls of the cases' program: lines of crates/utoipa_cases/stdin, by how they begin.
+# ---- The calls of the programs of cases: lines of crates/PROGRAM/stdin, by how they begin. Those of the command's runs are not tried:
+# the command itself is, above.
+
+CASE_PROGRAMS = ("utoipa_cases", "utoipa_document_cases")
 
 # How a line begins; how many lines of each call are tried, those with the longest inputs; and what the program may print in place of
 # the answer. A text that was not read for want of memory is no tree to it.
@@ -48,7 +62,7 @@ CASES = [
     ("add ", 100, ["refused: memory", "refused: memory, and nothing has changed", "no tree"]),
 ]
 
-# What the cases' program says on standard error, with status 1, where its own reading or writing of lines was refused memory.
+# What a program of cases says on standard error, with status 1, where its own reading or writing of lines was refused memory.
 CASES_END_WITH = "Error: Kind(OutOfMemory)\n"
 
 # Refuses the request of the number REFUSED, and tells it by a byte on the file of the number TELL.
@@ -91,15 +105,17 @@ def text_of(path):
 
 
 def calls_of_command():
-    """Each line of COMMANDS as a call."""
+    """Each line of COMMANDS and of COMMANDS_ON_TEXTS as a call."""
     for words, given, stored in COMMANDS:
         name = "utoipa_doc %s < %s" % (" ".join(words), given)
         yield Call(name, "utoipa_doc", words, text_of(given), stored and text_of(stored), COMMAND_TELLS)
+    for words, given, stored in COMMANDS_ON_TEXTS:
+        yield Call("utoipa_doc %s: %s" % (" ".join(words), given), "utoipa_doc", words, given, stored, COMMAND_TELLS)
 
 
-def calls_of_cases():
-    """The lines of the cases that CASES picks, each as a call whose input it is."""
-    lines = list(zip(*(text_of("crates/utoipa_cases/" + it).split("\n") for it in ("stdin", "stdout"))))
+def calls_of_cases(program):
+    """The lines of a program's cases that CASES picks, each as a call whose input it is."""
+    lines = list(zip(*(text_of("crates/%s/%s" % (program, it)).split("\n") for it in ("stdin", "stdout"))))
     for beginning, most, told in CASES:
         by_call = {}
         for line, answer in lines:
@@ -108,15 +124,15 @@ def calls_of_cases():
         for of_call in by_call.values():
             of_call.sort(key=lambda it: -len(it[0]))
             for line, answer in of_call[:most]:
-                yield call_of_line(line, answer, told)
+                yield call_of_line(program, line, answer, told)
 
 
-def call_of_line(line, answer, told):
-    """A line of the cases and its stored answer as a call."""
+def call_of_line(program, line, answer, told):
+    """A line of a program's cases and its stored answer as a call."""
     # The program may have answered already where the reading of the next line is refused.
     outcomes = [Outcome(1, printed, CASES_END_WITH) for printed in ("", answer + "\n")]
     outcomes += [Outcome(0, it + "\n", "") for it in told]
-    return Call("utoipa_cases: " + line.replace("\t", " "), "utoipa_cases", [], line + "\n", answer + "\n", outcomes)
+    return Call("%s: %s" % (program, line.replace("\t", " ")), program, [], line + "\n", answer + "\n", outcomes)
 
 
 def library_in(folder):
@@ -160,7 +176,8 @@ def refuse_each(call, library):
 
 
 def main():
-    calls = [it for it in [*calls_of_command(), *calls_of_cases()] if all(word in it.name for word in sys.argv[1:])]
+    cases = [it for program in CASE_PROGRAMS for it in calls_of_cases(program)]
+    calls = [it for it in [*calls_of_command(), *cases] if all(word in it.name for word in sys.argv[1:])]
     if not calls:
         sys.exit("no call holds these words")
     lacking = sorted({it.program for it in calls if not os.path.exists(os.path.join(ROOT, "crates", it.program, "out", it.program))})

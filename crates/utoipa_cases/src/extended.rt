@@ -11,8 +11,6 @@ use utoipa_media::encoding::Encoding;
 use utoipa_media::header::Header;
 use utoipa_media::link::Link;
 use utoipa_operation_parts::{Parameter, RequestBody, Response, Responses};
-use utoipa_path::{Operation, PathItem};
-use utoipa_paths::Paths;
 use utoipa_schema::{AllOf, AnyOf, Array, Object, OneOf, Schema};
 use utoipa_schema_parts::Discriminator;
 use utoipa_security::security::{
@@ -117,24 +115,6 @@ impl Extended for Responses {
 }
 
 impl Extended for Parameter {
-    fn set_extensions(&mut self, extensions: Extensions) {
-        self.extensions = Some(extensions);
-    }
-}
-
-impl Extended for Operation {
-    fn set_extensions(&mut self, extensions: Extensions) {
-        self.extensions = Some(extensions);
-    }
-}
-
-impl Extended for PathItem {
-    fn set_extensions(&mut self, extensions: Extensions) {
-        self.extensions = Some(extensions);
-    }
-}
-
-impl Extended for Paths {
     fn set_extensions(&mut self, extensions: Extensions) {
         self.extensions = Some(extensions);
     }

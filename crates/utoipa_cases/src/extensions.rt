@@ -1,11 +1,10 @@
 //! Values printed with extensions of any names.
 
 use crate::extended::Extended;
-use crate::printing::printed;
-use crate::question::refused;
 use serde_json::Value;
 use std::alloc::{AllocError, Global};
 use utoipa_base::Extensions;
+use utoipa_case_kit::{printed, refused, two_trees};
 use utoipa_leaf::example::Example;
 use utoipa_leaf::external_docs::ExternalDocs;
 use utoipa_leaf::info::{Contact, Info, License};
@@ -16,8 +15,6 @@ use utoipa_media::encoding::Encoding;
 use utoipa_media::header::Header;
 use utoipa_media::link::Link;
 use utoipa_operation_parts::{Parameter, RequestBody, Response, Responses};
-use utoipa_path::{Operation, PathItem};
-use utoipa_paths::Paths;
 use utoipa_schema::{AllOf, AnyOf, Array, Object, OneOf, Schema};
 use utoipa_schema_parts::Discriminator;
 use utoipa_security::security::{
@@ -32,19 +29,25 @@ pub fn printed_with_extensions(
     name: &str,
     texts: &str,
 ) -> Result<String, AllocError> {
-    let Some((text, extensions)) = texts.split_once('\t') else {
-        return String::from_str(alloc, "no two texts");
-    };
-    match (
-        Value::from_str(alloc, text),
-        Value::from_str(alloc, extensions),
-    ) {
-        (Ok(tree), Ok(Value::Object(members))) => {
+    match two_trees(alloc, texts) {
+        Ok((tree, extensions)) => with_members(alloc, name, &tree, extensions),
+        Err(lacking) => String::from_str(alloc, lacking),
+    }
+}
+
+// The same of a tree, and of the object whose members are the extensions.
+fn with_members(
+    alloc: Global,
+    name: &str,
+    tree: &Value,
+    extensions: Value,
+) -> Result<String, AllocError> {
+    match extensions {
+        Value::Object(members) => {
             let extensions = Extensions::from_pairs(alloc, members.into_iter())?;
-            of_leaves(alloc, name, &tree, extensions)
+            of_leaves(alloc, name, tree, extensions)
         }
-        (Ok(_), Ok(_)) => String::from_str(alloc, "no object"),
-        _ => String::from_str(alloc, "no tree"),
+        _ => String::from_str(alloc, "no object"),
     }
 }
 
@@ -82,20 +85,6 @@ fn of_media(
         "Response" => with_extensions::<Response>(alloc, tree, extensions),
         "Responses" => with_extensions::<Responses>(alloc, tree, extensions),
         "Parameter" => with_extensions::<Parameter>(alloc, tree, extensions),
-        _ => of_paths(alloc, name, tree, extensions),
-    }
-}
-
-fn of_paths(
-    alloc: Global,
-    name: &str,
-    tree: &Value,
-    extensions: Extensions,
-) -> Result<String, AllocError> {
-    match name {
-        "Operation" => with_extensions::<Operation>(alloc, tree, extensions),
-        "PathItem" => with_extensions::<PathItem>(alloc, tree, extensions),
-        "Paths" => with_extensions::<Paths>(alloc, tree, extensions),
         _ => of_schemas(alloc, name, tree, extensions),
     }
 }
@@ -162,6 +151,6 @@ fn with_extensions<T: Extended>(
             value.set_extensions(extensions);
             printed(alloc, &value)
         }
-        Err(fault) => refused(alloc, fault),
+        Err(fault) => refused(alloc, &fault),
     }
 }

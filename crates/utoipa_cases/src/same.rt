@@ -4,6 +4,7 @@ use serde_json::Value;
 use std::alloc::{AllocError, Global};
 use std::collections::BTreeMap;
 use utoipa_base::{ReadFault, Readings, Same, Tree, has_fraction, same_tree};
+use utoipa_case_kit::two_trees;
 use utoipa_leaf::external_docs::ExternalDocs;
 use utoipa_leaf::server::{Server, ServerVariable};
 use utoipa_leaf::tag::Tag;
@@ -11,12 +12,9 @@ use utoipa_security::security::SecurityRequirement;
 
 /// Whether the values that two texts, with a tab between them, read as are the same, as the type of that name.
 pub fn are_same(alloc: Global, name: &str, texts: &str) -> Result<String, AllocError> {
-    let Some((left, right)) = texts.split_once('\t') else {
-        return String::from_str(alloc, "no two texts");
-    };
-    match (Value::from_str(alloc, left), Value::from_str(alloc, right)) {
-        (Ok(left), Ok(right)) => String::from_str(alloc, told(alloc, name, &left, &right)),
-        _ => String::from_str(alloc, "no tree"),
+    match two_trees(alloc, texts) {
+        Ok((left, right)) => String::from_str(alloc, told(alloc, name, &left, &right)),
+        Err(lacking) => String::from_str(alloc, lacking),
     }
 }
 

@@ -1,10 +1,10 @@
 //! The types by their names.
 
-use crate::question::{Question, answered};
 use serde_json::Value;
 use std::alloc::{AllocError, Global};
 use std::collections::BTreeMap;
 use utoipa_base::{Deprecated, Number, Ref, RefOr, Required};
+use utoipa_case_kit::{Question, answered};
 use utoipa_leaf::example::Example;
 use utoipa_leaf::external_docs::ExternalDocs;
 use utoipa_leaf::info::{Contact, Info, License};
@@ -17,8 +17,6 @@ use utoipa_media::encoding::Encoding;
 use utoipa_media::header::Header;
 use utoipa_media::link::Link;
 use utoipa_operation_parts::{Parameter, RequestBody, Response, Responses};
-use utoipa_path::{Callback, Operation, PathItem};
-use utoipa_paths::Paths;
 use utoipa_schema::{AdditionalProperties, AllOf, AnyOf, Array, ArrayItems, Object, OneOf, Schema};
 use utoipa_schema_parts::{Discriminator, KnownFormat, SchemaFormat, SchemaType, TypeWord, Xml};
 use utoipa_security::security::{
@@ -130,27 +128,6 @@ fn of_media(
         "RefOr<Header>" => answered::<RefOr<Header>>(alloc, question, tree),
         "RefOr<Link>" => answered::<RefOr<Link>>(alloc, question, tree),
         "RefOr<Response>" => answered::<RefOr<Response>>(alloc, question, tree),
-        _ => of_paths(alloc, question, name, tree),
-    }
-}
-
-fn of_paths(
-    alloc: Global,
-    question: Question,
-    name: &str,
-    tree: &Value,
-) -> Result<String, AllocError> {
-    match name {
-        "Operation" => answered::<Operation>(alloc, question, tree),
-        "PathItem" => answered::<PathItem>(alloc, question, tree),
-        "Paths" => answered::<Paths>(alloc, question, tree),
-        "Callback" => answered::<Callback>(alloc, question, tree),
-        "RefOr<Operation>" => answered::<RefOr<Operation>>(alloc, question, tree),
-        "RefOr<PathItem>" => answered::<RefOr<PathItem>>(alloc, question, tree),
-        "RefOr<Callback>" => answered::<RefOr<Callback>>(alloc, question, tree),
-        "BTreeMap<String, Operation>" => {
-            answered::<BTreeMap<String, Operation>>(alloc, question, tree)
-        }
         _ => of_schemas(alloc, question, name, tree),
     }
 }

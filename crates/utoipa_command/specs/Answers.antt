@@ -4,11 +4,11 @@ use Rattle.std.specs.Str.{is_utf8}
 use Rattle.serde_json.specs.Data.{Data}
 use Rattle.serde_json.specs.Read.{read as read_text}
 use Rattle.serde_json.specs.Written.{has_float, compact_text}
-use Rattle.utoipa_base.specs.Kinds.{Kind, named, ref_or, schema, server_object}
+use Rattle.utoipa_base.specs.Kinds.{Kind, named, ref_or, schema, server_object, open_api_object}
 use Rattle.utoipa_base.specs.Reading.{read}
 use Rattle.utoipa_base.specs.Writing.{write}
 use Rattle.utoipa_command.specs.declared.command.Command.{Command}
-use Rattle.utoipa_command.specs.declared.command.Command.TheVariants.{Server, Schema}
+use Rattle.utoipa_command.specs.declared.command.Command.TheVariants.{Server, Schema, Document}
 use Rattle.utoipa_command.specs.declared.refusal.Refusal.{Refusal}
 use Rattle.utoipa_command.specs.declared.refusal.Refusal.TheVariants.{Memory, Read, Write, Text, Fraction, Missing, Kind as NoKind, Word, Alternative}
 
@@ -24,6 +24,7 @@ rewritten k t = option_map write (read k t)
 abbrev pub answer_of : Command → Data → Option Data
 answer_of Server t = rewritten (named server_object) t
 answer_of Schema t = rewritten (ref_or schema) t
+answer_of Document t = rewritten (named open_api_object) t
 
 -- the line of a tree: its compact text, and a newline
 abbrev pub line_of : Data → List ℕ

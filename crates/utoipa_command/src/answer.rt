@@ -7,10 +7,9 @@ use crate::command::Command;
 use crate::refusal::Refusal;
 use serde_json::Value;
 use std::alloc::Global;
-use utoipa_base::laws::stays_plain;
-use utoipa_base::{RefOr, Tree};
-use utoipa_leaf::server::Server;
-use utoipa_schema::Schema;
+use utoipa::Tree;
+use utoipa::laws::stays_plain;
+use utoipa::openapi::{OpenApi, RefOr, Schema, Server};
 
 /// The line with which the command answers a text. Fails with why the text is refused: no JSON text, a fraction, no document of
 /// the command's kind, or want of memory.
@@ -44,6 +43,7 @@ fn answer_to_tree(alloc: Global, command: Command, tree: Value) -> Result<Vec<u8
     match command {
         Command::Server => rewritten::<Server>(alloc, tree),
         Command::Schema => rewritten::<RefOr<Schema>>(alloc, tree),
+        Command::Document => rewritten::<OpenApi>(alloc, tree),
     }
 }
 

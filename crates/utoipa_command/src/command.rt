@@ -23,6 +23,8 @@ pub enum Command {
     Server,
     /// Reads a schema, or a reference to one, and writes it.
     Schema,
+    /// Reads an OpenAPI document and writes it.
+    Document,
 }
 
 impl Command {
@@ -43,6 +45,7 @@ impl Command {
         match word {
             "server" => Some(Command::Server),
             "schema" => Some(Command::Schema),
+            "document" => Some(Command::Document),
             _ => None,
         }
     }

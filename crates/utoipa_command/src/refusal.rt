@@ -4,7 +4,7 @@ ghost use Rattle.utoipa_command.specs.Messages.{refusal_line, refusal_of};
 ghost use Rattle.utoipa_command.specs.declared.refusal.Refusal.TheVariants.{Memory};
 
 use std::alloc::{AllocError, AllocFailed};
-use utoipa_base::ReadFault;
+use utoipa::ReadFault;
 
 /// Why a run is refused.
 #[derive(Clone, Copy, Debug, PartialEq, Eq)]

@@ -1,5 +1,4 @@
-//! What needs code to be tested of contents, responses, operations, path items and paths: builders, conversions, copies and
-//! merging.
+//! What needs code to be tested of contents, responses, operations and path items: builders, conversions, copies and merging.
 #![tactic(auto)]
 
 #[cfg(test)]
@@ -10,8 +9,6 @@ mod operation_parts;
 mod operations;
 #[cfg(test)]
 mod path_items;
-#[cfg(test)]
-mod paths;
 #[cfg(test)]
 mod schema_parts;
 #[cfg(test)]

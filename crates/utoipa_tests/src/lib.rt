@@ -1,6 +1,6 @@
 //! What needs code to be tested of the basic types, the small objects, security and the command: builders, conversions,
-//! comparisons, copies, and memory that is refused. What can be told as an input and an output is a line of the table of
-//! cases of `utoipa_cases`.
+//! comparisons, copies, and memory that is refused. What can be told as an input and an output is a case of `utoipa_cases` or
+//! `utoipa_command_cases`.
 #![tactic(auto)]
 
 #[cfg(test)]

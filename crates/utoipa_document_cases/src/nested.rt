@@ -1,8 +1,8 @@
 //! Operations that nest deeper than a text can nest them: each holds a callback, which holds a path item, which holds the next.
 
-use crate::printing::printed;
 use std::alloc::{AllocError, Global};
 use utoipa_base::{RefOr, Tree};
+use utoipa_case_kit::printed;
 use utoipa_leaf::path::HttpMethod;
 use utoipa_path::{Callback, Operation, PathItem};
 

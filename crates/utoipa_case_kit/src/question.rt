@@ -1,11 +1,11 @@
 //! What is asked of a tree as a type.
 
 use crate::printing::printed;
+use crate::refusal::refused;
 use crate::values::values_of;
 use serde_json::Value;
 use std::alloc::{AllocError, Global};
-use utoipa_base::{ReadFault, Tree};
-use utoipa_command::Refusal;
+use utoipa_base::Tree;
 
 /// What is asked.
 #[derive(Clone, Copy)]
@@ -53,14 +53,8 @@ fn read_again<T: Tree>(alloc: Global, tree: &Value) -> Result<String, AllocError
             drop(value);
             printed(alloc, &copy)
         }
-        Err(fault) => refused(alloc, fault),
+        Err(fault) => refused(alloc, &fault),
     }
-}
-
-/// The line of the command for a fault, without its newline.
-pub fn refused(alloc: Global, fault: ReadFault) -> Result<String, AllocError> {
-    let line = Refusal::from(fault).line();
-    String::from_str(alloc, line.trim_end_matches('\n'))
 }
 
 fn fault_told<T: Tree>(alloc: Global, tree: &Value) -> Result<String, AllocError> {
@@ -76,7 +70,7 @@ fn counted<T: Tree>(alloc: Global, tree: &Value) -> Result<String, AllocError> {
     match counted.outcome {
         Ok(_) => format!(in alloc; "{readings} readings, {values} values"),
         Err(fault) => {
-            let line = refused(alloc, fault)?;
+            let line = refused(alloc, &fault)?;
             format!(in alloc; "{readings} readings, {values} values, {line}")
         }
     }

@@ -1,9 +1,7 @@
 //! Paths, as they are built, changed and merged.
 use crate::shared::{extension, is_text, is_written, is_written_first, read, text};
 use std::process::Abort;
-use utoipa_leaf::path::HttpMethod;
-use utoipa_path::{Operation, PathItem};
-use utoipa_paths::{Paths, PathsBuilder, merge_paths};
+use utoipa::openapi::path::{HttpMethod, Operation, PathItem, Paths, PathsBuilder, merge_paths};
 
 // The operation of that name.
 fn operation(rt: &(impl Abort + AllocGlobal), name: &str) -> Operation {

@@ -1,10 +1,9 @@
 //! Values that are changed: that take of another what they lack, and paths that take an operation.
 
-use crate::printing::printed;
-use crate::question::refused;
 use serde_json::Value;
 use std::alloc::{AllocError, Global};
 use utoipa_base::{ReadFault, Tree};
+use utoipa_case_kit::{printed, refused, two_trees};
 use utoipa_leaf::path::HttpMethod;
 use utoipa_path::{Operation, PathItem};
 use utoipa_paths::{Paths, merge_paths};
@@ -30,15 +29,9 @@ impl Merging for Paths {
 /// What the value of the first of two texts, with a tab between them, is written as, once it has taken what it lacks of that of the
 /// second, both read as the type of that name.
 pub fn merged_of_type(alloc: Global, name: &str, texts: &str) -> Result<String, AllocError> {
-    let Some((first, second)) = texts.split_once('\t') else {
-        return String::from_str(alloc, "no two texts");
-    };
-    match (
-        Value::from_str(alloc, first),
-        Value::from_str(alloc, second),
-    ) {
-        (Ok(first), Ok(second)) => of_type(alloc, name, &first, &second),
-        _ => String::from_str(alloc, "no tree"),
+    match two_trees(alloc, texts) {
+        Ok((first, second)) => of_type(alloc, name, &first, &second),
+        Err(lacking) => String::from_str(alloc, lacking),
     }
 }
 
@@ -53,7 +46,7 @@ fn of_type(alloc: Global, name: &str, first: &Value, second: &Value) -> Result<S
 fn merged<T: Merging>(alloc: Global, first: &Value, second: &Value) -> Result<String, AllocError> {
     match (T::from_value(alloc, first), T::from_value(alloc, second)) {
         (Ok(first), Ok(second)) => both_merged(alloc, first, second),
-        (Err(fault), _) | (_, Err(fault)) => refused(alloc, fault),
+        (Err(fault), _) | (_, Err(fault)) => refused(alloc, &fault),
     }
 }
 
@@ -68,7 +61,7 @@ fn both_merged<T: Merging>(alloc: Global, first: T, second: T) -> Result<String,
 pub fn merged_list(alloc: Global, text: &str) -> Result<String, AllocError> {
     match read_text::<Vec<Paths>>(alloc, text) {
         Ok(all) => printed(alloc, &merge_paths(alloc, all)?),
-        Err(fault) => refused(alloc, fault),
+        Err(fault) => refused(alloc, &fault),
     }
 }
 
@@ -83,7 +76,7 @@ pub fn with_operation(alloc: Global, path: &str, texts: &str) -> Result<String, 
     };
     match read_all(alloc, paths, methods, operation) {
         Ok((paths, methods, operation)) => added(alloc, path, paths, methods, operation),
-        Err(fault) => refused(alloc, fault),
+        Err(fault) => refused(alloc, &fault),
     }
 }
 

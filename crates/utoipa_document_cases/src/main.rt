@@ -1,0 +1,66 @@
+//! Answers each line of standard input: a call, a tab, and what the call is given. It knows operations, path items and callbacks, and
+//! what is made of them: paths, components and documents.
+//!
+//! A line without a tab is printed as it is: one that begins with `#` says what the next ones show. The calls:
+//!
+//! | Call | Given | Answer |
+//! |---|---|---|
+//! | `read TYPE` | a JSON text | what a copy of the value that its tree reads as is written as, or the refusal |
+//! | `print TYPE` | two JSON texts, a tab between: a value, and an object whose members are its extensions | what the value prints, or the refusal |
+//! | `fault TYPE` | a JSON text | what the fault of reading it says |
+//! | `fits TYPE` | a JSON text | whether its tree is a document of the type: `yes` or `no` |
+//! | `count TYPE` | a JSON text | the schema readings, and the values of the tree |
+//! | `count-from N TYPE` | a JSON text | `within`, where N readings at least were counted, and no more than the tree has values |
+//! | `merge TYPE` | two JSON texts, a tab between | what the first value is written as, once it has taken what it lacks of the second |
+//! | `merge-paths` | a JSON text, a list | what the paths of the list are written as, merged all at once |
+//! | `add PATH` | three JSON texts, a tab between each: paths, a list of methods, an operation | what the paths are written as, once a copy of the operation was put at each of the methods of PATH |
+//! | `callbacks` | a number | `true`, where an operation in so many callbacks, one in the other, is kept |
+//!
+//! A value that prints another text than that of the tree that it is written as is told so, as `printed otherwise`, and that
+//! text.
+#![tactic(auto)]
+
+mod extended;
+mod extensions;
+mod merged;
+mod nested;
+mod types;
+
+use std::alloc::{AllocError, Global};
+use std::io;
+use utoipa_case_kit::Call;
+
+fn main(rt: HostRuntime) -> io::Result<()> {
+    for line in rt.lines(rt.alloc()) {
+        let line = line?;
+        let answer = answer_of(rt.alloc(), line.as_str())?;
+        println!(rt; "{answer}")?;
+    }
+    Ok(())
+}
+
+// The answer to a line.
+fn answer_of(alloc: Global, line: &str) -> Result<String, AllocError> {
+    match Call::of_line(line) {
+        Some(call) => answer_to_call(alloc, &call),
+        None => String::from_str(alloc, line),
+    }
+}
+
+fn answer_to_call(alloc: Global, call: &Call<'_>) -> Result<String, AllocError> {
+    match call.name {
+        "print" => extensions::printed_with_extensions(alloc, call.subject(), call.given),
+        "merge" => merged::merged_of_type(alloc, call.subject(), call.given),
+        "merge-paths" => merged::merged_list(alloc, call.given),
+        "add" => merged::with_operation(alloc, call.subject(), call.given),
+        "callbacks" => nested::callbacks_kept(alloc, call.given),
+        _ => answer_to_question(alloc, call),
+    }
+}
+
+fn answer_to_question(alloc: Global, call: &Call<'_>) -> Result<String, AllocError> {
+    match call.question() {
+        Some((question, name)) => types::answer_of_type(alloc, question, name, call.given),
+        None => String::from_str(alloc, "no such call"),
+    }
+}
