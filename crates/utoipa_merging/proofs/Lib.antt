@@ -5,6 +5,8 @@ pub mod Shapes
 pub mod InOrder
 pub mod Determined
 pub mod Unique
+pub mod SortedTexts
+pub mod ReadInOrder
 pub mod Nesting
 pub mod MapViews
 pub mod Lookups

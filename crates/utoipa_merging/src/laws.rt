@@ -1,6 +1,10 @@
 //! What holds of all documents that are merged or nested, as contracts of functions that do nothing.
-ghost use Rattle.std.specs.Prelude.{◌≡◌, ◌∷◌, ◌++◌, ℕ, List, [], option_and_then};
+ghost use Rattle.serde_json.specs.Data.{Data};
+ghost use Rattle.serde_json.specs.Read.{read as read_text};
+ghost use Rattle.std.specs.Prelude.{◌≡◌, ◌∷◌, ◌++◌, ℕ, List, [], Some, option_and_then};
 ghost use Rattle.utoipa_base.specs.Docs.{Doc};
+ghost use Rattle.utoipa_base.specs.Kinds.{named, open_api_object};
+ghost use Rattle.utoipa_base.specs.Reading.{read};
 ghost use Rattle.utoipa_merging.specs.Example.{first_api, merged_api, second_api, third_api};
 ghost use Rattle.utoipa_merging.specs.Merged.{
   AddsNothing,
@@ -13,6 +17,7 @@ ghost use Rattle.utoipa_merging.specs.Merged.{
 };
 ghost use Rattle.utoipa_merging.specs.Nested.{IsNested, mounted_at};
 ghost use Rattle.utoipa_merging.specs.Slots.{ItemSlot, extension_at, has_extensions, item_slot, path_slot, paths_of};
+ghost use Rattle.utoipa_merging.specs.Sorted.{IsSorted};
 
 /// Merging what two lists of documents are merged to merges the documents of both. The lists may be of any length.
 pub fn merging_composes()
@@ -72,4 +77,14 @@ pub fn nested_paths()
 /// one name the second's.
 pub fn three_documents()
     ensures { IsMerged (first_api ∷ second_api ∷ third_api ∷ []) merged_api }
+{}
+
+/// The tree of a text has the members of each object in the order of their names, each name once.
+pub fn texts_are_sorted()
+    ensures { (text : List ℕ) (tree : Data) → read_text text ≡ Some tree → IsSorted tree }
+{}
+
+/// A document that is read from such a tree has its maps in the order of their keys.
+pub fn what_is_read_is_in_key_order()
+    ensures { (tree : Data) (d : Doc) → IsSorted tree → read (named open_api_object) tree ≡ Some d → IsInKeyOrder d }
 {}
