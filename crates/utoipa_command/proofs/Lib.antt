@@ -2,3 +2,4 @@ pub mod Trees
 pub mod Exact
 pub mod Told
 pub mod Served
+pub mod Documents

@@ -1,10 +1,11 @@
 //! What holds of all documents that are merged or nested, as contracts of functions that do nothing.
+ghost use Rattle.std.specs.Prelude.{◌≡◌, ◌∷◌, ◌++◌, ℕ, List, [], All, Some, option_and_then};
 ghost use Rattle.serde_json.specs.Data.{Data};
 ghost use Rattle.serde_json.specs.Read.{read as read_text};
-ghost use Rattle.std.specs.Prelude.{◌≡◌, ◌∷◌, ◌++◌, ℕ, List, [], Some, option_and_then};
 ghost use Rattle.utoipa_base.specs.Docs.{Doc};
 ghost use Rattle.utoipa_base.specs.Kinds.{named, open_api_object};
 ghost use Rattle.utoipa_base.specs.Reading.{read};
+ghost use Rattle.utoipa_base.specs.WellFormed.{IsPlain};
 ghost use Rattle.utoipa_merging.specs.Example.{first_api, merged_api, second_api, third_api};
 ghost use Rattle.utoipa_merging.specs.Merged.{
   AddsNothing,
@@ -73,10 +74,15 @@ pub fn nested_paths()
         × ((name : List ℕ) → extension_at name (paths_of d) ≡ extension_at name (paths_of own)) }
 {}
 
-/// Some documents are merged: of equal servers the second document's two stay and the third's goes, and of the examples of
-/// one name the second's.
-pub fn three_documents()
-    ensures { IsMerged (first_api ∷ second_api ∷ third_api ∷ []) merged_api }
+/// What plain documents are merged into is plain, where its maps stand in the order of their keys.
+pub fn merged_stays_plain()
+    ensures { (documents : List Doc) (d : Doc) → IsMerged documents d → All IsPlain documents → IsInKeyOrder d → IsPlain d }
+{}
+
+/// What a plain document is with a plain one nested into it is plain, where its maps stand in the order of their keys.
+pub fn nested_stays_plain()
+    ensures { (answers : List (List ℕ)) (own nested d : Doc) → IsOpenApi own → IsOpenApi nested → IsNested answers own nested d
+        → IsPlain own → IsPlain nested → IsInKeyOrder d → IsPlain d }
 {}
 
 /// The tree of a text has the members of each object in the order of their names, each name once.
@@ -87,4 +93,10 @@ pub fn texts_are_sorted()
 /// A document that is read from such a tree has its maps in the order of their keys.
 pub fn what_is_read_is_in_key_order()
     ensures { (tree : Data) (d : Doc) → IsSorted tree → read (named open_api_object) tree ≡ Some d → IsInKeyOrder d }
+{}
+
+/// Some documents are merged: of equal servers the second document's two stay and the third's goes, and of the examples of
+/// one name the second's.
+pub fn three_documents()
+    ensures { IsMerged (first_api ∷ second_api ∷ third_api ∷ []) merged_api }
 {}
