@@ -54,11 +54,14 @@ one_mounted g composer base all coming later name answer d old now next before i
     let here = subst (λ l. AreMountedSoFar g composer base all l old now) is before in
     record {
       answers = λ more h.
-          let r = here.answers (answer ∷ more) (may, h) in
-          (r.0, r.1, λ path.
-          r.2 path
-          ∙ or_or (last_of (map (item_if path) (answered more later))) (item_if path (answer, d)) (entry_at path now)
-          ∙ ap (option_or (last_of (map (item_if path) (answered more later)))) (put_over (bytes_eq path answer) d (entry_at path now) ∙ sym (put path)));
+          let r = here.answers (answer ∷ more) (may, h) in (
+            r.0,
+            r.1,
+            λ path.
+                r.2 path
+                ∙ or_or (last_of (map (item_if path) (answered more later))) (item_if path (answer, d)) (entry_at path now)
+                ∙ ap (option_or (last_of (map (item_if path) (answered more later)))) (put_over (bytes_eq path answer) d (entry_at path now) ∙ sym (put path)),
+          );
       among = λ path h. here.among path (in_tail name (keys_of later) path h);
     }
 

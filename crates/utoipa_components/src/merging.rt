@@ -27,14 +27,17 @@ type FirstMaps<R> = (
     Places<Schema>,
     (Places<Response>, (Places<Parameter>, (Places<Example>, R))),
 );
+
 type MiddleMaps<R> = (
     Places<RequestBody>,
     (Places<Header>, (Places<Link>, (Places<Callback>, R))),
 );
+
 type LastMaps = (
     BTreeMap<String, PathItem>,
     (Places<Content>, (Places<SecurityScheme>, ())),
 );
+
 type Maps = FirstMaps<MiddleMaps<LastMaps>>;
 
 /// What components took, so that it can be taken back.

@@ -24,7 +24,7 @@ pub use crate::types::PathItem;
 use std::alloc::{AllocError, Global};
 use std::collections::BTreeMap;
 use std::mem;
-use utoipa_base::{Extensions, Ref, list_if_any, put_each};
+use utoipa_base::{Extensions, Ref, list_if_any, put, put_each, set};
 use utoipa_leaf::path::HttpMethod;
 use utoipa_leaf::server::Server;
 use utoipa_merging::fill_missing;
@@ -163,8 +163,7 @@ impl PathItemBuilder {
             × (held.entries ≡ insert_entry string_cmp (built_path_item self).additional_operations.entries method operation)
             × (built_path_item b ≡ record (built_path_item self) { additional_operations = held })) }
     {
-        drop(self.item.additional_operations.insert(method, operation)?);
-        Ok(self)
+        put(&mut self.item.additional_operations, method, operation).and(Ok(self))
     }
 
     /// Puts each of the operations under the name of its method, in place of an earlier one of that name. The iterator has to end.
@@ -180,8 +179,7 @@ impl PathItemBuilder {
             × (held.entries ≡ put_each given (built_path_item self).additional_operations.entries)
             × (built_path_item b ≡ record (built_path_item self) { additional_operations = held })) }
     {
-        put_each(&mut self.item.additional_operations, operations)?;
-        Ok(self)
+        put_each(&mut self.item.additional_operations, operations).and(Ok(self))
     }
 
     /// Sets what the path is for, in short.
@@ -213,8 +211,8 @@ impl PathItemBuilder {
         ensures { IfOk result (λ b. (listed : _) × IsFilledIfAny I.next_gives servers listed
             × (built_path_item b ≡ record (built_path_item self) { servers = listed })) }
     {
-        self.item.servers = list_if_any(alloc, servers)?;
-        Ok(self)
+        let servers = list_if_any(alloc, servers);
+        set(&mut self.item.servers, servers).and(Ok(self))
     }
 
     /// Sets the parameters that all operations of the path have. The iterator has to end.
@@ -230,8 +228,8 @@ impl PathItemBuilder {
         ensures { IfOk result (λ b. (listed : _) × ArePlacesIfAny I.next_gives parameters listed
             × (built_path_item b ≡ record (built_path_item self) { parameters = listed })) }
     {
-        self.item.parameters = places_if_any(alloc, parameters)?;
-        Ok(self)
+        let parameters = places_if_any(alloc, parameters);
+        set(&mut self.item.parameters, parameters).and(Ok(self))
     }
 
     /// Sets references to the parameters that all operations of the path have. The iterator has to end.
@@ -247,8 +245,8 @@ impl PathItemBuilder {
         ensures { IfOk result (λ b. (listed : _) × AreReferencesIfAny I.next_gives references listed
             × (built_path_item b ≡ record (built_path_item self) { parameters = listed })) }
     {
-        self.item.parameters = references_if_any(alloc, references)?;
-        Ok(self)
+        let parameters = references_if_any(alloc, references);
+        set(&mut self.item.parameters, parameters).and(Ok(self))
     }
 
     /// Sets the specification extensions.

@@ -37,5 +37,5 @@ returns-in_ok-merge_plain-in-Join-clause-ok t c =
 pub returns-in_ok-merge_plain-in-Join-clause-ordered : goal.returns-in_ok-merge_plain-in-Join-clause-ordered
 returns-in_ok-merge_plain-in-Join-clause-ordered t c = λ all.
     let sides = on_both (λ d. IsInKeyOrder (openapi_doc d)) (leaves_of c.args.bracketing) (leaves_of c.into_inner.result) (leaves_of c.into_inner-in-Join.result)
-        (ap leaves_of c.in-Join.is ∙ (λ i. leaves_of (sym c.into_inner.ensures i) ++ leaves_of (sym c.into_inner-in-Join.ensures i))) all in
+    (ap leaves_of c.in-Join.is ∙ (λ i. leaves_of (sym c.into_inner.ensures i) ++ leaves_of (sym c.into_inner-in-Join.ensures i))) all in
     c.in_ok-merge_plain-in-Join.ensures.ordered (c.in_ok-merged-in-Join.ensures.ordered sides.0) (c.in_ok-merge_pairs-in-Join.ensures.ordered sides.1)

@@ -20,7 +20,7 @@ returns-clause-ok c = λ documents first parts fixed.
       security = c.in_ok-join_lists-2.field-0;
       tags = c.in_ok-join_lists-3.field-0;
       paths = c.in_ok-merge_paths.field-0;
-      components = c.in_ok-merge_components.field-0
+      components = c.in_ok-merge_components.field-0;
     } in
     merged_by_parts first documents merged fixed (record {
       servers = of_documents (λ ls. IsListMerged ls (list_doc_of server_doc merged.servers)) (list_doc_of server_doc) (λ d. d.servers) (first ∷ documents) c.args.self.servers.items parts.servers c.in_ok-join_lists.ensures;
@@ -38,7 +38,7 @@ returns-clause-ordered c = λ documents parts all.
       security = c.in_ok-join_lists-2.field-0;
       tags = c.in_ok-join_lists-3.field-0;
       paths = c.in_ok-merge_paths.field-0;
-      components = c.in_ok-merge_components.field-0
+      components = c.in_ok-merge_components.field-0;
     } in
     in_key_order merged (c.in_ok-merge_paths.ensures.ordered (all_paths_in_order documents c.args.self.paths.items parts.paths all))
     (c.in_ok-merge_components.ensures.ordered (all_components_in_order documents c.args.self.components.items parts.components all))

@@ -15,7 +15,7 @@ returns-clause-ok c =
       security = c.take_entries-2.new.own;
       tags = c.take_entries-3.new.own;
       paths = c.merge_maps.new.paths;
-      components = c.merge_maps.new.components
+      components = c.merge_maps.new.components;
     } in
     merged_by_parts c.args.self.now (c.args.other ∷ []) merged refl (record {
       servers = c.in_ok-servers.ensures.merged _ c.take_entries.ensures;

@@ -10,7 +10,7 @@ returns-clause-ok g c =
       m.0,
       m.1,
       nested_by_parts m.0 c.args.self c.args.other c.mount.new.items c.new.result c.merge_plain.new.self
-      (each_answered g.F.Fn c.args.composer c.args.base.now (entries_in (paths_of (openapi_doc c.args.other))) m.0 m.1) m.2 c.new.ensures c.in_ok-merge_plain.ensures.ok,
+          (each_answered g.F.Fn c.args.composer c.args.base.now (entries_in (paths_of (openapi_doc c.args.other))) m.0 m.1) m.2 c.new.ensures c.in_ok-merge_plain.ensures.ok,
     )
 
 pub returns-clause-ordered : goal.returns-clause-ordered
