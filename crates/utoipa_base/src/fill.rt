@@ -31,7 +31,7 @@ pub fn set<T: Drop, E: Drop>(field: &mut T, value: Result<T, E>) -> Result<(), E
 /// what it was.
 pub fn put<T: Drop>(map: &mut BTreeMap<String, T>, name: String, value: T) -> Result<(), AllocError>
     ensures ok { OnOk result (map.new.entries ≡ insert_entry string_cmp map.old.entries name value) }
-    ensures err { OnErr result (map.new ≡ map.old) }
+    ensures err { OnErr result (map.new.entries ≡ map.old.entries) }
 {
     drop(map.insert(name, value)?);
     Ok(())
