@@ -64,6 +64,7 @@ impl OpenApi {
         ensures ordered { IsInKeyOrder (openapi_doc self.old) → IsInKeyOrder (openapi_doc other) → IsInKeyOrder (openapi_doc self.new) }
     {
         if self.lists_have_fraction() || other.lists_have_fraction() {
+            drop(other);
             return Err(MergeFault::Fraction);
         }
         self.merge_plain(alloc, other)?;
@@ -78,8 +79,7 @@ impl OpenApi {
         ensures ordered { IfOk result (λ merged. IsInKeyOrder (openapi_doc self) → IsInKeyOrder (openapi_doc other) → IsInKeyOrder (openapi_doc merged)) }
     {
         let mut merged = self;
-        merged.merge(alloc, other)?;
-        Ok(merged)
+        merged.merge(alloc, other).and(Ok(merged))
     }
 
     /// Whether a server or a tag holds a fraction.

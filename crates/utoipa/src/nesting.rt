@@ -88,6 +88,7 @@ fn mount<F: Fn(&str, &str) -> Result<String, AllocError>>(
 {
     for (path, item) in nested {
         let Ok(answer) = composer(base, path.as_str()) else {
+            drop(item);
             return Err(MergeFault::Composer);
         };
         drop(items.insert(answer, item)?);

@@ -53,11 +53,9 @@ impl PathItem {
             × IsEmptyPathItem empty × HoldAtMethods given (operation_doc operation) empty (out-PathItem item)) }
     {
         let mut item = empty_path_item(alloc);
-        for method in methods {
-            let copy = clone_operation(alloc, &operation)?;
-            set_operation(&mut item, method, copy);
-        }
-        Ok(item)
+        let copied = set_copies(&mut item, alloc, methods, &operation);
+        drop(operation);
+        copied.and(Ok(item))
     }
 
     /// A builder that begins with an item of which nothing is said, with no operation. Takes no memory.
@@ -79,11 +77,37 @@ impl PathItem {
     {
         let mut other = other;
         let additional = mem::replace(&mut other.additional_operations, BTreeMap::new(alloc));
-        fill_missing(&mut self.additional_operations, alloc, additional)?;
-        let own = mem::replace(self, empty_path_item(alloc));
-        drop(mem::replace(self, with_missing_of(own, other)));
-        Ok(())
+        match fill_missing(&mut self.additional_operations, alloc, additional) {
+            Ok(()) => {
+                let own = mem::replace(self, empty_path_item(alloc));
+                drop(mem::replace(self, with_missing_of(own, other)));
+                Ok(())
+            }
+            Err(refused) => {
+                drop(other);
+                Err(refused)
+            }
+        }
     }
+}
+
+// Sets a copy of the operation at each of the methods. Where memory runs out, some may be set.
+fn set_copies<I: Iterator<Item = HttpMethod> + Drop>(
+    item: &mut PathItem,
+    alloc: Global,
+    methods: I,
+    operation: &Operation,
+) -> Result<(), AllocError>
+    requires can { I.can_next methods }
+    requires ends { IsFinite (I.remaining methods) }
+    ensures { OnOk result ((given : List HttpMethod) × Drains I.next_gives methods given
+        × HoldAtMethods given (operation_doc operation.now) (out-PathItem item.old) (out-PathItem item.new)) }
+{
+    for method in methods {
+        let copy = clone_operation(alloc, operation)?;
+        set_operation(item, method, copy);
+    }
+    Ok(())
 }
 
 /// An item of which nothing is said, with no operation. Takes no memory.

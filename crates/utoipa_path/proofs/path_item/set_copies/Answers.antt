@@ -1,5 +1,5 @@
 use Rattle.utoipa_path.proofs.ByMethod.{hold_none, hold_one}
-use Rattle.utoipa_path.proofs.types.PathItem.from_http_methods.Goals as goal
+use Rattle.utoipa_path.proofs.path_item.set_copies.Goals as goal
 
 pub loop-method-init : goal.loop-method-init
 loop-method-init g c = hold_none _ _
