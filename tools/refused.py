@@ -41,7 +41,9 @@ def type_named(line):
     variables = re.findall(r"(?:^|, )'?(\w+)", taken or "") if kind == "impl" else []
     of_trait, _, of_type = named.replace("&", "Ref ").replace("[", "Slice ").rpartition(" for ")
     if of_type.startswith("("):
-        of_type = "Tuple%d" % (of_type.count(",") + 1) if "," in of_type else "Unit"
+        # The commas between the items, not those inside of one.
+        outer = re.sub(r"<.*?>", "", of_type)
+        of_type = "Tuple%d %s" % (outer.count(",") + 1, of_type) if "," in outer else "Unit"
     words = [it for it in re.findall(r"\w+", of_type) + re.findall(r"\w+", of_trait) if it not in variables]
     return "".join(it[0].upper() + it[1:] for it in words)
 

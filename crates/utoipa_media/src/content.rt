@@ -10,12 +10,13 @@ ghost use Rattle.utoipa_media.specs.Builders.{built_content, IsContentPlace, IsC
 ghost use Rattle.utoipa_media.specs.declared.types.Content.{out-Content};
 
 use crate::encoding::Encoding;
+use crate::lists::set_list;
 pub use crate::types::Content;
 use serde_json::Value;
 use std::alloc::{AllocError, Global};
 use std::collections::BTreeMap;
 use std::mem;
-use utoipa_base::{Extensions, RefOr, boxed_if_any, list_from, put, put_each, set};
+use utoipa_base::{Extensions, RefOr, boxed_if_any, put, put_each, set};
 use utoipa_leaf::example::Example;
 use utoipa_schema::Schema;
 
@@ -137,8 +138,7 @@ impl ContentBuilder {
         ensures { IfOk result (λ b. (listed : ItemEncodings) × IsFilledFrom I.next_gives prefix_encoding listed
             × (built_content b ≡ record (built_content self) { prefix_encoding = listed })) }
     {
-        let prefix_encoding = list_from(alloc, prefix_encoding);
-        set(&mut self.content.prefix_encoding, prefix_encoding).and(Ok(self))
+        set_list(&mut self.content.prefix_encoding, alloc, prefix_encoding).and(Ok(self))
     }
 
     /// Sets how the items after the first are encoded.

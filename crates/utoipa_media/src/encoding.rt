@@ -8,10 +8,11 @@ ghost use Rattle.utoipa_media.specs.Builders.{built_encoding, header_place, head
 ghost use Rattle.utoipa_media.specs.declared.types.Encoding.{out-Encoding};
 
 use crate::header::Header;
+use crate::lists::set_list;
 pub use crate::types::Encoding;
 use std::alloc::{AllocError, Global};
 use std::collections::BTreeMap;
-use utoipa_base::{Extensions, Ref, RefOr, boxed_if_any, list_from, put, set};
+use utoipa_base::{Extensions, Ref, RefOr, boxed_if_any, put, set};
 use utoipa_leaf::path::ParameterStyle;
 
 impl Encoding {
@@ -131,8 +132,7 @@ impl EncodingBuilder {
         ensures { IfOk result (λ b. (listed : ItemEncodings) × IsFilledFrom I.next_gives prefix_encoding listed
             × (built_encoding b ≡ record (built_encoding self) { prefix_encoding = listed })) }
     {
-        let prefix_encoding = list_from(alloc, prefix_encoding);
-        set(&mut self.encoding.prefix_encoding, prefix_encoding).and(Ok(self))
+        set_list(&mut self.encoding.prefix_encoding, alloc, prefix_encoding).and(Ok(self))
     }
 
     /// Sets how the items after the first are encoded.
