@@ -10,8 +10,9 @@ body of each.
 
 A round checks a copy of the crate with as many bodies as go together: no two of a function, or of a cycle of functions. A
 function that calls a refused one is not judged, so its body goes into the next round. Ends with status 1 where a body is
-not refused or can't be tried, or where a function is refused that no body changes. Check the crate first: the copy takes
-over what that kept, and a body then takes five to fifteen seconds of a processor.
+not refused or can't be tried, or where a function is refused that no body changes. A body takes five to fifteen seconds of
+a processor, and each round one to three minutes before the first. The copy takes over what a check of the crate kept; where
+none did, only the functions that the bodies change are checked, by the libraries below, which have to be built.
 """
 import collections
 import glob
@@ -135,6 +136,13 @@ def copy_with_libraries(crate, room):
     return os.path.join(room, "crates", crate)
 
 
+def narrowed(crate, bodies):
+    """Returns the words that have only the bodies' functions checked, where no check of the whole crate kept anything."""
+    if os.path.isdir(os.path.join(CRATES, crate, "out/incremental")) or not all(body.functions for body in bodies):
+        return []
+    return [word for body in bodies for it in body.functions for word in ("--only", "%s::%s" % (crate, it))]
+
+
 def check_with(crate, bodies):
     """Checks a copy of a crate with the bodies in it. Returns what is said of each function, and all that is said."""
     with tempfile.TemporaryDirectory() as room:
@@ -147,7 +155,7 @@ def check_with(crate, bodies):
             with open(os.path.join(folder, changed), "w") as source:
                 source.write("\n".join(text))
         how = {"stdout": subprocess.PIPE, "stderr": subprocess.STDOUT, "text": True}
-        said = subprocess.run(["rt", "check", "--jobs", "1"], cwd=folder, **how).stdout
+        said = subprocess.run(["rt", "check", "--jobs", "1", *narrowed(crate, bodies)], cwd=folder, **how).stdout
     found = dict(re.findall(r"^fn %s::(\S+): (.*)" % crate, said, re.M))
     for function, words in found.items():
         waits = re.search(r"which (is|are) not proved|waits for", words)

@@ -79,7 +79,8 @@ impl OpenApi {
         ensures ordered { IfOk result (λ merged. IsInKeyOrder (openapi_doc self) → IsInKeyOrder (openapi_doc other) → IsInKeyOrder (openapi_doc merged)) }
     {
         let mut merged = self;
-        merged.merge(alloc, other).and(Ok(merged))
+        merged.merge(alloc, other)?;
+        Ok(merged)
     }
 
     /// Whether a server or a tag holds a fraction.
@@ -131,7 +132,10 @@ fn merge_maps(
 {
     let filled = fill_components(components, alloc, later_components)?;
     match paths.merge(alloc, later_paths) {
-        Ok(()) => Ok(()),
+        Ok(()) => {
+            drop(filled);
+            Ok(())
+        }
         Err(refused) => {
             take_back_components(components, filled);
             Err(refused)
