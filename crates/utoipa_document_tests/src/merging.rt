@@ -135,17 +135,18 @@ fn a_document_alone_keeps_its_fraction(rt: HostRuntime) {
     is_json(&rt, &merged, written.as_str());
 }
 
-// The second document with a fraction in all places at which merging takes nothing: its extensions, those of its info, and a server of
-// a path that the first document has.
+// The second document with fractions where merging compares nothing: in its extensions, in those of its info, and in a server of a path
+// that the first document has.
 fn with_others(rt: &(impl Abort + AllocGlobal)) -> OpenApi {
     let item = PathItemBuilder::from(read::<PathItem>(rt, r#"{"get":{"responses":{}}}"#));
     let item = item.servers(rt.alloc(), Some(servers(rt)));
     let item = item.expect(rt, "memory for servers").build();
     let paths = PathsBuilder::new(rt.alloc()).path(rt.alloc(), text(rt, "/a"), item);
-    let mut document = read::<OpenApi>(rt, SECOND);
-    document.info.extensions = extension_of(rt, Value::from(0.5));
+    let paths = paths.expect(rt, "memory for a path").build();
+    let mut info = Info::new(text(rt, "b"), text(rt, "1"));
+    info.extensions = extension_of(rt, Value::from(0.5));
+    let mut document = OpenApi::new(rt.alloc(), info, paths);
     document.extensions = extension_of(rt, Value::from(1.5));
-    document.paths = paths.expect(rt, "memory for a path").build();
     document
 }
 
@@ -191,29 +192,37 @@ fn a_composer_is_asked_in_the_order_of_the_paths(rt: HostRuntime) {
     );
 }
 
-#[test]
-fn a_composer_is_asked_until_it_refuses(rt: HostRuntime) {
+// The document with another nested into it, by a composer that refuses the path `/a` and counts in the cell how often it is asked.
+fn nested_but_one(
+    rt: &impl AllocGlobal,
+    asked: &Cell<u64>,
+    document: OpenApi,
+    other: OpenApi,
+) -> Result<OpenApi, MergeFault> {
     let alloc = rt.alloc();
-    let asked = Cell::new(0u64);
     let refusing = |_base: &str, path: &str| {
         asked.set(asked.get().wrapping_add(1));
         if path == "/a" {
-            return Err(AllocError);
+            Err(AllocError)
+        } else {
+            String::from_str(alloc, path)
         }
-        String::from_str(alloc, path)
     };
-    let document = read::<OpenApi>(&rt, FIRST);
-    let nested = read::<OpenApi>(&rt, NESTED);
-    let nested = document.nest_with_path_composer(alloc, "/v1", nested, &refusing);
+    document.nest_with_path_composer(alloc, "/v1", other, refusing)
+}
+
+#[test]
+fn a_composer_is_asked_until_it_refuses(rt: HostRuntime) {
+    let asked = Cell::new(0u64);
+    let first = read::<OpenApi>(&rt, FIRST);
+    let other = read::<OpenApi>(&rt, NESTED);
+    let nested = nested_but_one(&rt, &asked, copied(&rt, &first), copied(&rt, &other));
     is_refused(&rt, nested, "a path was refused");
     assert_eq!(&rt; asked.get(), 2);
-    let document = read::<OpenApi>(&rt, FIRST);
-    let nested = with_tags(&rt, NESTED);
-    let nested = document.nest_with_path_composer(alloc, "/v1", nested, &refusing);
+    // It is asked for nothing where there is a fraction, in the one document or the other.
+    let nested = nested_but_one(&rt, &asked, with_servers(&rt, FIRST), other);
     is_refused(&rt, nested, FRACTION);
-    let document = with_servers(&rt, FIRST);
-    let nested = read::<OpenApi>(&rt, NESTED);
-    let nested = document.nest_with_path_composer(alloc, "/v1", nested, &refusing);
+    let nested = nested_but_one(&rt, &asked, first, with_tags(&rt, NESTED));
     is_refused(&rt, nested, FRACTION);
     assert_eq!(&rt; asked.get(), 2);
 }
