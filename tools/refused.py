@@ -11,8 +11,8 @@ body of each.
 A round checks a copy of the crate with as many bodies as go together: no two of a function, or of a cycle of functions. A
 function that calls a refused one is not judged, so its body goes into the next round. Ends with status 1 where a body is
 not refused or can't be tried, or where a function is refused that no body changes. A body takes five to fifteen seconds of
-a processor, and each round one to three minutes before the first. The copy takes over what a check of the crate kept; where
-none did, only the functions that the bodies change are checked, by the libraries below, which have to be built.
+a processor, and each round one to three minutes before the first. Only the functions that the bodies change are checked, by
+the libraries below, which have to be built; the copy takes over what a check of the crate kept.
 """
 import collections
 import glob
@@ -137,8 +137,8 @@ def copy_with_libraries(crate, room):
 
 
 def narrowed(crate, bodies):
-    """Returns the words that have only the bodies' functions checked, where no check of the whole crate kept anything."""
-    if os.path.isdir(os.path.join(CRATES, crate, "out/incremental")) or not all(body.functions for body in bodies):
+    """Returns the words that have only the bodies' functions checked, where each body changes some."""
+    if not all(body.functions for body in bodies):
         return []
     return [word for body in bodies for it in body.functions for word in ("--only", "%s::%s" % (crate, it))]
 
