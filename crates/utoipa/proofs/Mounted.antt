@@ -1,5 +1,8 @@
 -- Path items that are put where a composer of paths answers.
 use Rattle.std.proofs.Common.{◌≡◌, ℕ, suc, length, List, [], ◌∷◌, ◌++◌, Bool, true, false, cond, Option, Some, None, Contains, map, option_map, refl, sym, ap, ◌∙◌, subst, String, Global, string_bytes, string_cmp}
+use Rattle.std.specs.Prelude.{Err}
+use Rattle.std.specs.Fn.{FnReturnsAtPair}
+use Rattle.std.specs.declared.alloc.AllocError.{AllocError}
 use Rattle.std.specs.Option.{option_or}
 use Rattle.std.specs.Str.{bytes_eq}
 use Rattle.std.specs.Map.{keys_of}
@@ -64,6 +67,12 @@ one_mounted g composer base all coming later name answer d old now next before i
           );
       among = λ path h. here.among path (in_tail name (keys_of later) path h);
     }
+
+-- where the composer refuses the next path, it may refuse one of all
+pub one_refused : {F : Type 0} (g : Composes F) (composer : F) (base : List ℕ) (all coming later : List (List ℕ × Doc)) (name : List ℕ) (d old now : Doc) (refused : AllocError)
+    → AreMountedSoFar g composer base all coming old now → coming ≡ (name, d) ∷ later → FnReturnsAtPair g composer base name (Err refused) → MayRefuseOne g composer base (keys_of all)
+one_refused g composer base all coming later name d old now refused before is may =
+    (name, refused, before.among name (subst (λ l. Contains (keys_of l) name) (sym is) (in_head name (keys_of later))), may)
 
 pub all_mounted : {F : Type 0} (g : Composes F) (composer : F) (base : List ℕ) (all coming : List (List ℕ × Doc)) (old now : Doc) → AreMountedSoFar g composer base all coming old now → coming ≡ []
     → (answers : List (List ℕ)) × MayAnswerEach g composer base (keys_of all) answers × ((path : List ℕ) → entry_at path now ≡ with_answered answers all path (entry_at path old))

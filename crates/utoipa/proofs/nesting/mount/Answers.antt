@@ -9,7 +9,7 @@ use Rattle.utoipa_path.specs.Docs.{path_item_doc}
 use Rattle.utoipa_paths.specs.Items.{IsInOrderIfAny}
 use Rattle.utoipa_paths.proofs.ItemSteps.{AreComingInOrder, coming_in_order, put_in_order}
 use Rattle.utoipa_merging.proofs.Lookups.{found}
-use Rattle.utoipa.proofs.Mounted.{none_mounted, one_mounted, all_mounted, entries_of_map, entry_put}
+use Rattle.utoipa.proofs.Mounted.{none_mounted, one_mounted, one_refused, all_mounted, entries_of_map, entry_put}
 use Rattle.utoipa.proofs.nesting.mount.Goals as goal
 
 pub loop-path-init : goal.loop-path-init
@@ -42,3 +42,8 @@ returns-clause-ok g c = all_mounted g.F.Fn c.args.composer.now c.args.base.now _
 
 pub returns-clause-ordered : goal.returns-clause-ordered
 returns-clause-ordered g c = λ standing nested. (c.loop-path.invariant.in_order standing nested).0
+
+pub returns-in_default-clause-composer : goal.returns-in_default-clause-composer
+returns-in_default-clause-composer g c = λ told.
+    one_refused g.F.Fn c.args.composer.now c.args.base.now _ _ _ (string_bytes c.in-Some.path) (path_item_doc c.in-Some.item) _ _ c.in_default.field-0 c.loop-path.invariant.mounted (ap (pairs_of path_item_doc) c.in-Some.ensures.steps)
+    (record { first = c.args.base; second = c.as_str.result; shows = (refl, c.as_str.ensures.value); says = record { met = c.in_default.ensures } })
