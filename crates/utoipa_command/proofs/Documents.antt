@@ -1,7 +1,8 @@
 -- Lists of documents that are read from a text's tree: what they are merged or nested into is plain and in key order.
-use Rattle.std.proofs.Common.{◌≡◌, ◌∷◌, ◌||◌, ℕ, List, [], Bool, false, Option, Some, None, IfSome, map, refl, sym, ap, ◌∙◌, subst, codes, Vec, Global, Result, Ok, Err, IfOk, IfErr}
+use Rattle.std.proofs.Common.{◌≡◌, ◌≢◌, ◌∷◌, ◌||◌, ℕ, List, [], Bool, false, Option, Some, None, IfSome, length, map, refl, sym, ap, ◌∙◌, subst, codes, Vec, Global, Result, Ok, Err, IfOk, IfErr}
 use Rattle.std.specs.List.{AllByRecursion, list_any}
 use Rattle.std.specs.Result.{IsErrAnd}
+use Rattle.std.proofs.lemmas.List.{length-map}
 use Rattle.std.proofs.lemmas.List.Elements.{All-from_recursion}
 use Rattle.serde_json.specs.Data.{Data, null, boolean, number, string, array, object, Items, no_items, item}
 use Rattle.serde_json.specs.Written.{has_float}
@@ -28,6 +29,7 @@ use Rattle.utoipa_command.specs.Answers.{behind, line_of, IsAnswerToTree, IsCaus
 use Rattle.utoipa_command.specs.Commands.{Request, merge, nest}
 use Rattle.utoipa_command.specs.Messages.{refusal_of_merging}
 use Rattle.utoipa_command.specs.declared.refusal.Refusal.{Refusal}
+use Rattle.utoipa_command.specs.declared.refusal.Refusal.TheVariants.{Memory, Count}
 
 -- the kind of a document
 abbrev document_kind : Kind
@@ -114,6 +116,18 @@ pub refused : {T : Type 0} (r : Request) (t : Data) (result : Result T Refusal) 
     → (fault ≡ merge_fault.Fraction → ⊥) → IfErr result (IsCauseInTree r t)
 refused r t (Ok v) fault h plain = tt
 refused r t (Err w) fault h plain = subst (IsCauseInTree r t) (sym h) (merging_refused r t fault plain)
+
+-- want of memory refuses any input
+pub memory_refused : {T : Type 0} (r : Request) (t : Data) (result : Result T Refusal) → IfErr result (λ w. w ≡ Memory) → IfErr result (IsCauseInTree r t)
+memory_refused r t (Ok v) h = tt
+memory_refused r t (Err w) h = subst (IsCauseInTree r t) (sym h) tt
+
+-- nesting refuses documents of another number than two for their number
+pub count_refused : {D T : Type 0} (f : D → Doc) (base : List ℕ) (t : Data) (v : Vec D Global) (result : Result T Refusal) → has_float t ≡ false
+    → read (list_of document_kind) t ≡ Some (list_of_docs f v) → length v.items ≢ 2 → result ≡ Err Count → IfErr result (IsCauseInTree (nest base) t)
+count_refused f base t v result plain reads other is =
+    subst (λ r. IfErr r (IsCauseInTree (nest base) t)) (sym is)
+    (plain, (list_of_docs f v, reads, λ two. other (sym (length-map v.items f) ∙ sym (ap length (listed (map f v.items))) ∙ two)))
 
 -- what holds of each document holds of each value that stands for one
 pub of_each : {D : Type 0} (P : Doc → Type 0) (f : D → Doc) (xs : List D) → AllByRecursion P (map f xs) → AllByRecursion (λ x. P (f x)) xs

@@ -3,3 +3,4 @@ pub mod Exact
 pub mod Told
 pub mod Served
 pub mod Documents
+pub mod Counts

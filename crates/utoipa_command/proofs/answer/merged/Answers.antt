@@ -4,7 +4,7 @@ use Rattle.utoipa_base.proofs.Results.{if_is}
 use Rattle.utoipa_merging.specs.Merged.{IsInKeyOrder}
 use Rattle.utoipa.specs.OpenApi.{openapi_doc}
 use Rattle.utoipa_command.specs.Commands.{merge}
-use Rattle.utoipa_command.proofs.Documents.{all_plain, answers_merged, if_ok, none_has_fraction, of_each, refused}
+use Rattle.utoipa_command.proofs.Documents.{all_plain, answers_merged, if_ok, memory_refused, none_has_fraction, of_each, refused}
 use Rattle.utoipa_command.proofs.answer.merged.Goals as goal
 
 pub returns-in_err-document-clause-err : goal.returns-in_err-document-clause-err
@@ -25,3 +25,6 @@ returns-in-Some-clause-ok c =
     (if_is _ _ _ merged.ok c.in-Some.is)
     (λ all. if_is _ _ _ merged.ordered c.in-Some.is (of_each IsInKeyOrder openapi_doc documents all))
     printed)
+
+pub returns-in-Some-clause-err : goal.returns-in-Some-clause-err
+returns-in-Some-clause-err c = memory_refused merge (view c.args.tree) c.line.result c.line.ensures.err

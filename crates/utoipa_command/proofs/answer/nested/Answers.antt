@@ -3,8 +3,10 @@ use Rattle.serde_json.specs.View.{view}
 use Rattle.utoipa_merging.proofs.ItemWalks.{none_left}
 use Rattle.utoipa.specs.OpenApi.{openapi_doc, openapi_of_kind}
 use Rattle.utoipa_command.specs.Commands.{nest}
-use Rattle.utoipa_command.proofs.Documents.{all_plain, answers_nested, if_ok, neither_has_fraction, refused, two_documents}
+use Rattle.utoipa_command.proofs.Counts.{has_third, no_first, no_second, none_to_give}
+use Rattle.utoipa_command.proofs.Documents.{all_plain, answers_nested, count_refused, if_ok, memory_refused, neither_has_fraction, refused, two_documents}
 use Rattle.utoipa_command.proofs.answer.nested.Goals as goal
+use Rattle.utoipa_command.proofs.answer.nested.Goals.{in_default, in_default-2, in_default-3}
 
 pub returns-in_err-nest-in-Some-Some-None-clause-err : goal.returns-in_err-nest-in-Some-Some-None-clause-err
 returns-in_err-nest-in-Some-Some-None-clause-err c =
@@ -30,3 +32,20 @@ returns-in-Some-Some-None-clause-ok c =
     answers_nested c.args.base.now (view c.args.tree) (openapi_doc two.own) (openapi_doc two.nested) _ _ read.plain c.requires.sorted
     (two_documents openapi_doc (view c.args.tree) c.in_ok-document_of.field-0 two.own two.nested both read.ok)
     (openapi_of_kind two.own) (openapi_of_kind two.nested) nested.ok nested.ordered printed)
+
+pub returns-in-Some-Some-None-clause-err : goal.returns-in-Some-Some-None-clause-err
+returns-in-Some-Some-None-clause-err c = memory_refused (nest c.args.base.now) (view c.args.tree) c.line.result c.line.ensures.err
+
+pub returns-clause-err : goal.returns-clause-err
+returns-clause-err c =
+    let read = c.in_ok-document_of.ensures in
+    let given = c.in_ok-document_of.field-0 in
+    let all = sym c.into_iter-documents.ensures.rest in
+    let first = c.into_iter-documents.result.rest in
+    let second = c.next.new.self.rest in
+    let refused_so = count_refused openapi_doc c.args.base.now (view c.args.tree) given c.match-next.result read.plain read.ok in
+    elim c.match-next.branch [
+      in_default w ↦ refused_so (has_third _ _ _ _ _ _ _ _ all w.in_default.ensures.items w.in_default.ensures'.items w.in_default.ensures''.items) w.result-is
+      | in_default-2 w ↦ refused_so (no_second _ _ _ _ all w.in_default.ensures.items
+          (none_to_give _ _ _ second.items second.len second.ok.0 c.next-2.ensures.cases w.in_default.is-1)) w.result-is
+      | in_default-3 w ↦ refused_so (no_first _ _ all (none_to_give _ _ _ first.items first.len first.ok.0 c.next.ensures.cases w.in_default.is-0)) w.result-is ]
