@@ -65,16 +65,32 @@ object_with t o (types, title, format, description, default, enums, required, pr
     (doc (option_of (boxed place_doc) (content i)) no_docs)))))))))))))))))))))))))))))
     (option_map extensions_view (extensions i)))))
 
--- an object of which nothing was said
-pub object_alone : (t : SchemaType) (o : Object) → IsEmptyObject t o → place_doc (object_place o) ≡ object_of (schema_type_doc t) docs.none_doc docs.none_doc docs.none_doc docs.none_doc docs.none_doc
-object_alone t o e =
-    object_with t o e o.format o.default o.additional_properties o.property_names o.minimum ∙
-    (λ i. object_of (schema_type_doc t) (option_of schema_format_doc (e.1.1.0 i)) (option_of tree_of (e.1.1.1.1.0 i)) (option_of (boxed (additional_properties_doc schema_doc)) (e.1.1.1.1.1.1.1.1.0 i)) (option_of (boxed schema_doc) (e.1.1.1.1.1.1.1.1.1.0 i)) (option_of number_doc (e.1.1.1.1.1.1.1.1.1.1.1.1.1.1.1.1.1.1.0 i)))
+-- an integer, of this format and with this least value
+pub integer_made : (t : SchemaType) (o : Object) → IsEmptyObject t o → (f : Option SchemaFormat) (m : Option Number) → place_doc (object_place (record o { format = f; minimum = m }))
+    ≡ object_of (schema_type_doc t) (option_of schema_format_doc f) docs.none_doc docs.none_doc docs.none_doc (option_of number_doc m)
+integer_made t o e f m =
+    object_with t o e f o.default o.additional_properties o.property_names m ∙
+    (λ i. object_of (schema_type_doc t) (option_of schema_format_doc f) (option_of tree_of (e.4 i)) (option_of (boxed (additional_properties_doc schema_doc)) (e.8 i)) (option_of (boxed schema_doc) (e.9 i)) (option_of number_doc m))
+
+-- a value that may be anything, with this default
+pub default_made : (t : SchemaType) (o : Object) → IsEmptyObject t o → (d : Option Value) → place_doc (object_place (record o { default = d }))
+    ≡ object_of (schema_type_doc t) docs.none_doc (option_of tree_of d) docs.none_doc docs.none_doc docs.none_doc
+default_made t o e d =
+    object_with t o e o.format d o.additional_properties o.property_names o.minimum ∙
+    (λ i. object_of (schema_type_doc t) (option_of schema_format_doc (e.2 i)) (option_of tree_of d) (option_of (boxed (additional_properties_doc schema_doc)) (e.8 i)) (option_of (boxed schema_doc) (e.9 i)) (option_of number_doc (e.18 i)))
+
+-- a map with these schemas of its values and its keys
+pub map_made : (t : SchemaType) (o : Object) → IsEmptyObject t o → (a : Option (Box (AdditionalProperties Schema) Global)) (k : Option (Box Schema Global))
+    → place_doc (object_place (record o { additional_properties = a; property_names = k }))
+    ≡ object_of (schema_type_doc t) docs.none_doc docs.none_doc (option_of (boxed (additional_properties_doc schema_doc)) a) (option_of (boxed schema_doc) k) docs.none_doc
+map_made t o e a k =
+    object_with t o e o.format o.default a k o.minimum ∙
+    (λ i. object_of (schema_type_doc t) (option_of schema_format_doc (e.2 i)) (option_of tree_of (e.4 i)) (option_of (boxed (additional_properties_doc schema_doc)) a) (option_of (boxed schema_doc) k) (option_of number_doc (e.18 i)))
 
 -- an array of which nothing was said but its items, and whether they are unique
 pub array_with : (items : RefOr Schema) (a : Array) → IsArrayOf one_array items a → (u : Bool) → place_doc (array_place (record a { unique_items = u })) ≡ array_of (place_doc items) u
 array_with items a (boxes, (b, held, is), (types, title, made, prefix, description, deprecated, example, examples, default, max_items, min_items, unique, xml, encoding, media_type, content, extensions)) u =
-    ap own_doc (schema-Array (record a {{ unique_items = u }})) ∙
+    ap own_doc (schema-Array (record a { unique_items = u })) ∙
     (λ i. own_doc (docs.schema_doc (table_doc array_schema
     (doc (schema_type_doc (types i))
     (doc (option_of text_of (title i))
@@ -100,7 +116,7 @@ array_with items a (boxes, (b, held, is), (types, title, made, prefix, descripti
 -- a combination of which nothing was said, of these schemas
 pub one_of_with : (o : OneOf) → IsEmptyOneOf o → (listed : Items) (schemas : List (RefOr Schema)) → listed.items ≡ schemas → place_doc (one_of_place (record o { items = listed })) ≡ one_of (map place_doc schemas)
 one_of_with o (items, types, title, description, default, example, examples, discriminator, read_only, write_only, extensions) listed schemas is =
-    ap own_doc (schema-OneOf (record o {{ items = listed }})) ∙
+    ap own_doc (schema-OneOf (record o { items = listed })) ∙
     (λ i. own_doc (docs.schema_doc (table_doc one_of_schema
     (doc (list_doc (docs_of (map place_doc (is i))))
     (doc (schema_type_doc (types i))

@@ -66,11 +66,17 @@ list_composed composed given = option_map listed (part 0 composed given)
 abbrev pub set_composed : Composition → Composition
 set_composed composed given = option_map unique (part 0 composed given)
 
--- the schema of a map, by those of its keys and of its values: none where that of the keys is a reference
+-- the schema that stands in its place; none where a reference does
+abbrev pub own_schema : Option Doc → Option Doc
+own_schema None = None
+own_schema (Some (own_doc schema)) = Some schema
+own_schema (Some reference) = None
+
+-- the schema of a map by those of its keys and its values, where there are both
 abbrev pub map_by : (keys values : Option Doc) → Option Doc
-map_by (Some (own_doc keys)) (Some values) = Some (mapped keys values)
+map_by (Some keys) (Some values) = Some (mapped keys values)
 map_by keys values = None
 
 -- a map
 abbrev pub map_composed : (keys values : Composition) → Composition
-map_composed keys values given = map_by (part 0 keys given) (part 1 values given)
+map_composed keys values given = map_by (own_schema (part 0 keys given)) (part 1 values given)

@@ -1,5 +1,5 @@
 -- The schemas that types are composed to, as documents.
-use Rattle.std.specs.Prelude.{◌∷◌, [], Bool, true, false, List, None}
+use Rattle.std.specs.Prelude.{◌∷◌, [], Bool, true, false, List, None, pos}
 use Rattle.serde_json.specs.Data.{null}
 use Rattle.utoipa_base.specs.Docs.{Doc, flag_doc, int_doc, text_doc, tree_doc, list_doc, map_doc, none_doc, some_doc, own_doc, any_value_doc, table_doc, no_docs, doc, no_entries, docs_of}
 use Rattle.utoipa_base.specs.Docs as docs
@@ -113,7 +113,7 @@ format_of f = some_doc (known_format_doc f)
 
 -- the least value of an integer without a sign
 abbrev pub zero_minimum : Doc
-zero_minimum = some_doc (int_doc 0)
+zero_minimum = some_doc (int_doc (pos 0))
 
 -- any value
 abbrev pub anything : Doc

@@ -2,10 +2,10 @@
 ghost use Rattle.std.specs.Prelude.{◌≡◌, IfOk, OnOk, OnErr, IfErr, Some, None};
 ghost use Rattle.utoipa_base.specs.Numbers.{number_doc};
 ghost use Rattle.utoipa_base.specs.Views.{option_of};
-ghost use Rattle.utoipa_compose.specs.Compositions.{place_doc, map_by};
+ghost use Rattle.utoipa_compose.specs.Compositions.{place_doc, map_by, own_schema};
 ghost use Rattle.utoipa_compose.specs.Made.{typed as typed_doc, integer as integer_doc, nullable as nullable_doc, array_of, anything as anything_doc, nothing as nothing_doc};
 ghost use Rattle.utoipa_compose.specs.declared.fault.ComposeFault.TheVariants.{KeyIsReference, Memory};
-ghost use Rattle.utoipa_schema_parts.specs.Format.{known_format_doc};
+ghost use Rattle.utoipa_schema_parts.specs.Format.{known_format_doc, schema_format_doc};
 
 use crate::fault::ComposeFault;
 use std::alloc::{AllocError, Global};
@@ -87,8 +87,8 @@ pub(crate) fn map(
     keys: RefOr<Schema>,
     values: RefOr<Schema>,
 ) -> Result<RefOr<Schema>, ComposeFault>
-    ensures ok { IfOk result (λ made. map_by (Some (place_doc keys)) (Some (place_doc values)) ≡ Some (place_doc made)) }
-    ensures key { IfErr result (λ fault. fault ≡ KeyIsReference → map_by (Some (place_doc keys)) (Some (place_doc values)) ≡ None) }
+    ensures ok { IfOk result (λ made. map_by (own_schema (Some (place_doc keys))) (Some (place_doc values)) ≡ Some (place_doc made)) }
+    ensures key { IfErr result (λ fault. fault ≡ KeyIsReference → map_by (own_schema (Some (place_doc keys))) (Some (place_doc values)) ≡ None) }
 {
     let RefOr::T(keys) = keys else {
         return Err(ComposeFault::KeyIsReference);

@@ -58,5 +58,9 @@ pub(crate) fn referred_by_both<K: ToSchema, V: ToSchema>(
 {
     let length = schemas.len();
     K::schemas(alloc, schemas)?;
-    V::schemas(alloc, schemas).inspect_err(|_| schemas.truncate(length))
+    let outcome = V::schemas(alloc, schemas);
+    if outcome.is_err() {
+        schemas.truncate(length);
+    }
+    outcome
 }

@@ -1,7 +1,9 @@
 //! The schemas of truth values and texts.
-ghost use Rattle.std.specs.Prelude.{[], Some, codes};
-ghost use Rattle.utoipa_compose.specs.Compositions.{always};
+ghost use Rattle.std.specs.Prelude.{◌≡◌, [], Some, None, IfErr, IfOk, OnErr, codes};
+ghost use Rattle.std.specs.Cow.{cow_str_bytes};
+ghost use Rattle.utoipa_compose.specs.Compositions.{AreAppended, always, place_doc, place_docs};
 ghost use Rattle.utoipa_compose.specs.Made.{boolean, text};
+ghost use Rattle.utoipa_compose.specs.declared.fault.ComposeFault.TheVariants.{KeyIsReference};
 
 use crate::fault::ComposeFault;
 use crate::made::{typed};
@@ -74,7 +76,11 @@ impl ToSchema for String {
 impl<'a> ComposeSchema for &'a str {
     ghost composed = { always text };
 
-    fn compose(alloc: Global, _schemas: Vec<RefOr<Schema>>) -> Result<RefOr<Schema>, ComposeFault> {
+    fn compose(alloc: Global, schemas: Vec<RefOr<Schema>>) -> Result<RefOr<Schema>, ComposeFault>
+        ensures ok { IfOk result (λ schema. always text (place_docs schemas) ≡ Some (place_doc schema)) }
+        ensures key { IfErr result (λ fault. fault ≡ KeyIsReference → always text (place_docs schemas) ≡ None) }
+    {
+        drop(schemas);
         Ok(typed(alloc, TypeWord::String))
     }
 }
@@ -82,7 +88,10 @@ impl<'a> ComposeSchema for &'a str {
 impl<'a> PartialSchema for &'a str {
     ghost described = { Some text };
 
-    fn schema(alloc: Global) -> Result<RefOr<Schema>, ComposeFault> {
+    fn schema(alloc: Global) -> Result<RefOr<Schema>, ComposeFault>
+        ensures ok { IfOk result (λ schema. Some text ≡ Some (place_doc schema)) }
+        ensures key { IfErr result (λ fault. fault ≡ KeyIsReference → Some text ≡ None) }
+    {
         schema_of::<&'a str>(alloc)
     }
 }
@@ -92,11 +101,16 @@ impl<'a> ToSchema for &'a str {
 
     ghost referred = { [] };
 
-    fn name() -> CowStr<'static, Global> {
+    fn name() -> CowStr<'static, Global>
+        ensures { cow_str_bytes result ≡ codes "str" }
+    {
         CowStr::Borrowed("str")
     }
 
-    fn schemas(_alloc: Global, _schemas: &mut Vec<(String, RefOr<Schema>)>) -> Result<(), AllocError> {
+    fn schemas(_alloc: Global, schemas: &mut Vec<(String, RefOr<Schema>)>) -> Result<(), AllocError>
+        ensures ok { IfOk result (λ _. AreAppended [] schemas.old schemas.new) }
+        ensures refused { OnErr result (schemas.new.items ≡ schemas.old.items) }
+    {
         Ok(())
     }
 }
