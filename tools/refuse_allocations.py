@@ -75,7 +75,7 @@ COMMAND_TELLS = [Outcome(1, "", "refused: memory\n")]
 # ---- The calls of the programs of cases: lines of crates/PROGRAM/stdin, by how they begin. Those of the command's runs are not tried:
 # the command itself is, above.
 
-CASE_PROGRAMS = ("utoipa_cases", "utoipa_document_cases")
+CASE_PROGRAMS = ("utoipa_cases", "utoipa_compose_cases", "utoipa_document_cases")
 
 # Longer lines are not tried: those that merge 200 documents make thousands of requests, and each request takes a run of its own.
 LONGEST = 10000
@@ -85,6 +85,10 @@ LONGEST = 10000
 CASES = [
     # Reads the tree as a type, copies the value, writes and prints it.
     ("read ", 1, ["refused: memory", "no tree"]),
+    # Composes a type over the schemas of a list.
+    ("compose ", 2, ["refused: out of memory", "no list of schemas"]),
+    # Puts schemas at the end of a list, and prints the second line where the list is then what it was.
+    ("schemas ", 1, ["refused: memory", "refused: memory, and nothing has changed"]),
     # Change a value, and print the second line where the value's tree is what it was; where it is not, they print another one.
     ("merge PathItem\t", 100, ["refused: memory", "refused: memory, and nothing has changed", "no tree"]),
     ("merge Paths\t", 100, ["refused: memory", "refused: memory, and nothing has changed", "no tree"]),

@@ -2,7 +2,7 @@
 
 use serde_json::Value;
 use std::alloc::{AllocError, Global};
-use utoipa_base::{RefOr, Tree};
+use utoipa_base::{Ref, RefOr, Tree};
 use utoipa_case_kit::printed;
 use utoipa_compose::{ComposeFault, ComposeSchema, PartialSchema, ToSchema};
 use utoipa_schema::Schema;
@@ -34,11 +34,25 @@ pub fn named<T: ToSchema>(alloc: Global) -> Result<String, AllocError> {
 pub fn referred<T: ToSchema>(alloc: Global) -> Result<String, AllocError> {
     let mut schemas = Vec::new(alloc);
     let given = String::from_str(alloc, "Given")?;
-    let reference = RefOr::Ref(utoipa_base::Ref::from_schema_name(alloc, "Given")?);
-    schemas.push((given, reference))?;
-    T::schemas(alloc, &mut schemas)?;
+    let reference = Ref::from_schema_name(alloc, "Given")?;
+    schemas.push((given, RefOr::Ref(reference)))?;
+    let outcome = T::schemas(alloc, &mut schemas);
+    let names = names_of(alloc, &schemas)?;
+    match outcome {
+        Ok(()) => Ok(names),
+        Err(_) if names.as_str() == "Given " => {
+            String::from_str(alloc, "refused: memory, and nothing has changed")
+        }
+        Err(_) => String::from_str(alloc, "refused: memory, and the list has changed"),
+    }
+}
+
+fn names_of(
+    alloc: Global,
+    schemas: &[(String, RefOr<Schema>)],
+) -> Result<String, AllocError> {
     let mut names = String::new(alloc);
-    for (name, _) in &schemas {
+    for (name, _) in schemas {
         names.push_str(name.as_str())?;
         names.push(' ')?;
     }
