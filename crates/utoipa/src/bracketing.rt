@@ -28,8 +28,7 @@ pub enum Bracketing {
     Join(Box<Bracketing>, Box<Bracketing>),
 }
 
-/// Merges documents pair by pair, the inner pairs first. In all brackets the same documents give the same one. Brackets in brackets take
-/// some kilobytes of the stack for each level, which may be too much for hundreds of them: many documents in a row are for [`merge_all`].
+/// Merges documents pair by pair, the inner pairs first. In all brackets the same documents give the same one.
 ///
 /// Fails with `Fraction` exactly where there are at least two documents and a server or a tag of one of them holds a fraction, before
 /// anything else and without memory, and with `Memory` where memory runs out. One document is answered as it is, without memory.
