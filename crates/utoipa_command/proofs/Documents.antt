@@ -122,11 +122,10 @@ pub memory_refused : {T : Type 0} (r : Request) (t : Data) (result : Result T Re
 memory_refused r t (Ok v) h = tt
 memory_refused r t (Err w) h = subst (IsCauseInTree r t) (sym h) tt
 
--- nesting refuses documents of another number than two for their number
-pub count_refused : {D T : Type 0} (f : D → Doc) (base : List ℕ) (t : Data) (v : Vec D Global) (result : Result T Refusal) → has_float t ≡ false
-    → read (list_of document_kind) t ≡ Some (list_of_docs f v) → length v.items ≢ 2 → result ≡ Err Count → IfErr result (IsCauseInTree (nest base) t)
-count_refused f base t v result plain reads other is =
-    subst (λ r. IfErr r (IsCauseInTree (nest base) t)) (sym is)
+-- documents of another number than two are refused by nesting, for their number
+pub count_refused : {D : Type 0} (f : D → Doc) (base : List ℕ) (t : Data) (v : Vec D Global) → has_float t ≡ false
+    → read (list_of document_kind) t ≡ Some (list_of_docs f v) → length v.items ≢ 2 → IsCauseInTree (nest base) t Count
+count_refused f base t v plain reads other =
     (plain, (list_of_docs f v, reads, λ two. other (sym (length-map v.items f) ∙ sym (ap length (listed (map f v.items))) ∙ two)))
 
 -- what holds of each document holds of each value that stands for one

@@ -6,7 +6,7 @@ use Rattle.utoipa_command.specs.Commands.{nest}
 use Rattle.utoipa_command.proofs.Counts.{has_third, no_first, no_second, none_to_give}
 use Rattle.utoipa_command.proofs.Documents.{all_plain, answers_nested, count_refused, if_ok, memory_refused, neither_has_fraction, refused, two_documents}
 use Rattle.utoipa_command.proofs.answer.nested.Goals as goal
-use Rattle.utoipa_command.proofs.answer.nested.Goals.{in_default, in_default-2, in_default-3}
+use Rattle.utoipa_command.proofs.answer.nested.Goals.{in_default-via-in-Some+in-Some+in_default, in_default-via-in-Some+in_default, in_default-via-in_default}
 
 pub returns-in_err-nest-in-Some-Some-None-clause-err : goal.returns-in_err-nest-in-Some-Some-None-clause-err
 returns-in_err-nest-in-Some-Some-None-clause-err c =
@@ -43,9 +43,8 @@ returns-clause-err c =
     let all = sym c.into_iter-documents.ensures.rest in
     let first = c.into_iter-documents.result.rest in
     let second = c.next.new.self.rest in
-    let refused_so = count_refused openapi_doc c.args.base.now (view c.args.tree) given c.match-next.result read.plain read.ok in
-    elim c.match-next.branch [
-      in_default w ↦ refused_so (has_third _ _ _ _ _ _ _ _ all w.in_default.ensures.items w.in_default.ensures'.items w.in_default.ensures''.items) w.result-is
-      | in_default-2 w ↦ refused_so (no_second _ _ _ _ all w.in_default.ensures.items
-          (none_to_give _ _ _ second.items second.len second.ok.0 c.next-2.ensures.cases w.in_default.is-1)) w.result-is
-      | in_default-3 w ↦ refused_so (no_first _ _ all (none_to_give _ _ _ first.items first.len first.ok.0 c.next.ensures.cases w.in_default.is-0)) w.result-is ]
+    count_refused openapi_doc c.args.base.now (view c.args.tree) given read.plain read.ok (elim c.in_default.branch [
+      in_default-via-in-Some+in-Some+in_default w ↦ has_third _ _ _ _ _ _ _ _ all w.in_default.ensures.items w.in_default.ensures'.items w.in_default.ensures''.items
+      | in_default-via-in-Some+in_default w ↦ no_second _ _ _ _ all w.in_default.ensures.items
+          (none_to_give _ _ _ second.items second.len second.ok.0 c.next-2.ensures.cases w.in_default.is-1)
+      | in_default-via-in_default w ↦ no_first _ _ all (none_to_give _ _ _ first.items first.len first.ok.0 c.next.ensures.cases w.in_default.is-0) ])
