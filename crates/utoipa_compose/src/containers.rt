@@ -4,7 +4,7 @@ ghost use Rattle.utoipa_compose.specs.Compositions.{option_composed, list_compos
 
 use crate::fault::ComposeFault;
 use crate::made::{array, nullable};
-use crate::parts::{first};
+use crate::parts::first;
 use crate::traits::{ComposeSchema, PartialSchema, ToSchema, schema_of};
 use std::alloc::{AllocError, Global};
 use std::borrow::{Cow, CowStr};
@@ -39,7 +39,10 @@ impl<T: ComposeSchema + ToSchema> ToSchema for Option<T> {
         CowStr::Borrowed("Option")
     }
 
-    fn schemas(alloc: Global, schemas: &mut Vec<(String, RefOr<Schema>)>) -> Result<(), AllocError> {
+    fn schemas(
+        alloc: Global,
+        schemas: &mut Vec<(String, RefOr<Schema>)>,
+    ) -> Result<(), AllocError> {
         T::schemas(alloc, schemas)
     }
 }
@@ -69,7 +72,10 @@ impl<T: ComposeSchema + ToSchema> ToSchema for Vec<T> {
         CowStr::Borrowed("Vec")
     }
 
-    fn schemas(alloc: Global, schemas: &mut Vec<(String, RefOr<Schema>)>) -> Result<(), AllocError> {
+    fn schemas(
+        alloc: Global,
+        schemas: &mut Vec<(String, RefOr<Schema>)>,
+    ) -> Result<(), AllocError> {
         T::schemas(alloc, schemas)
     }
 }
@@ -99,7 +105,10 @@ impl<T: ComposeSchema + ToSchema> ToSchema for LinkedList<T> {
         CowStr::Borrowed("LinkedList")
     }
 
-    fn schemas(alloc: Global, schemas: &mut Vec<(String, RefOr<Schema>)>) -> Result<(), AllocError> {
+    fn schemas(
+        alloc: Global,
+        schemas: &mut Vec<(String, RefOr<Schema>)>,
+    ) -> Result<(), AllocError> {
         T::schemas(alloc, schemas)
     }
 }
@@ -129,7 +138,10 @@ impl<'a, T: ComposeSchema + ToSchema> ToSchema for &'a [T] {
         CowStr::Borrowed("slice")
     }
 
-    fn schemas(alloc: Global, schemas: &mut Vec<(String, RefOr<Schema>)>) -> Result<(), AllocError> {
+    fn schemas(
+        alloc: Global,
+        schemas: &mut Vec<(String, RefOr<Schema>)>,
+    ) -> Result<(), AllocError> {
         T::schemas(alloc, schemas)
     }
 }
@@ -159,7 +171,10 @@ impl<T: ComposeSchema + ToSchema> ToSchema for Box<T> {
         CowStr::Borrowed("Box")
     }
 
-    fn schemas(alloc: Global, schemas: &mut Vec<(String, RefOr<Schema>)>) -> Result<(), AllocError> {
+    fn schemas(
+        alloc: Global,
+        schemas: &mut Vec<(String, RefOr<Schema>)>,
+    ) -> Result<(), AllocError> {
         T::schemas(alloc, schemas)
     }
 }
@@ -189,7 +204,10 @@ impl<'a, T: ComposeSchema + ToSchema> ToSchema for Cow<'a, T> {
         CowStr::Borrowed("Cow")
     }
 
-    fn schemas(alloc: Global, schemas: &mut Vec<(String, RefOr<Schema>)>) -> Result<(), AllocError> {
+    fn schemas(
+        alloc: Global,
+        schemas: &mut Vec<(String, RefOr<Schema>)>,
+    ) -> Result<(), AllocError> {
         T::schemas(alloc, schemas)
     }
 }
@@ -219,7 +237,10 @@ impl<T: ComposeSchema + ToSchema> ToSchema for RefCell<T> {
         CowStr::Borrowed("RefCell")
     }
 
-    fn schemas(alloc: Global, schemas: &mut Vec<(String, RefOr<Schema>)>) -> Result<(), AllocError> {
+    fn schemas(
+        alloc: Global,
+        schemas: &mut Vec<(String, RefOr<Schema>)>,
+    ) -> Result<(), AllocError> {
         T::schemas(alloc, schemas)
     }
 }
@@ -249,7 +270,10 @@ impl<T: ComposeSchema + ToSchema> ToSchema for Rc<T> {
         CowStr::Borrowed("Rc")
     }
 
-    fn schemas(alloc: Global, schemas: &mut Vec<(String, RefOr<Schema>)>) -> Result<(), AllocError> {
+    fn schemas(
+        alloc: Global,
+        schemas: &mut Vec<(String, RefOr<Schema>)>,
+    ) -> Result<(), AllocError> {
         T::schemas(alloc, schemas)
     }
 }

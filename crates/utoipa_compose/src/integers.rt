@@ -4,7 +4,7 @@ ghost use Rattle.utoipa_compose.specs.Compositions.{always};
 ghost use Rattle.utoipa_compose.specs.Made.{int32, int64, signed, unsigned, unsigned32, unsigned64};
 
 use crate::fault::ComposeFault;
-use crate::made::{integer};
+use crate::made::integer;
 use crate::traits::{ComposeSchema, PartialSchema, ToSchema, schema_of};
 use std::alloc::{AllocError, Global};
 use std::borrow::CowStr;
@@ -36,7 +36,10 @@ impl ToSchema for i8 {
         CowStr::Borrowed("i8")
     }
 
-    fn schemas(_alloc: Global, _schemas: &mut Vec<(String, RefOr<Schema>)>) -> Result<(), AllocError> {
+    fn schemas(
+        _alloc: Global,
+        _schemas: &mut Vec<(String, RefOr<Schema>)>,
+    ) -> Result<(), AllocError> {
         Ok(())
     }
 }
@@ -66,7 +69,10 @@ impl ToSchema for i16 {
         CowStr::Borrowed("i16")
     }
 
-    fn schemas(_alloc: Global, _schemas: &mut Vec<(String, RefOr<Schema>)>) -> Result<(), AllocError> {
+    fn schemas(
+        _alloc: Global,
+        _schemas: &mut Vec<(String, RefOr<Schema>)>,
+    ) -> Result<(), AllocError> {
         Ok(())
     }
 }
@@ -96,7 +102,10 @@ impl ToSchema for i32 {
         CowStr::Borrowed("i32")
     }
 
-    fn schemas(_alloc: Global, _schemas: &mut Vec<(String, RefOr<Schema>)>) -> Result<(), AllocError> {
+    fn schemas(
+        _alloc: Global,
+        _schemas: &mut Vec<(String, RefOr<Schema>)>,
+    ) -> Result<(), AllocError> {
         Ok(())
     }
 }
@@ -126,7 +135,10 @@ impl ToSchema for i64 {
         CowStr::Borrowed("i64")
     }
 
-    fn schemas(_alloc: Global, _schemas: &mut Vec<(String, RefOr<Schema>)>) -> Result<(), AllocError> {
+    fn schemas(
+        _alloc: Global,
+        _schemas: &mut Vec<(String, RefOr<Schema>)>,
+    ) -> Result<(), AllocError> {
         Ok(())
     }
 }
@@ -156,7 +168,10 @@ impl ToSchema for i128 {
         CowStr::Borrowed("i128")
     }
 
-    fn schemas(_alloc: Global, _schemas: &mut Vec<(String, RefOr<Schema>)>) -> Result<(), AllocError> {
+    fn schemas(
+        _alloc: Global,
+        _schemas: &mut Vec<(String, RefOr<Schema>)>,
+    ) -> Result<(), AllocError> {
         Ok(())
     }
 }
@@ -186,7 +201,10 @@ impl ToSchema for isize {
         CowStr::Borrowed("isize")
     }
 
-    fn schemas(_alloc: Global, _schemas: &mut Vec<(String, RefOr<Schema>)>) -> Result<(), AllocError> {
+    fn schemas(
+        _alloc: Global,
+        _schemas: &mut Vec<(String, RefOr<Schema>)>,
+    ) -> Result<(), AllocError> {
         Ok(())
     }
 }
@@ -216,7 +234,10 @@ impl ToSchema for u8 {
         CowStr::Borrowed("u8")
     }
 
-    fn schemas(_alloc: Global, _schemas: &mut Vec<(String, RefOr<Schema>)>) -> Result<(), AllocError> {
+    fn schemas(
+        _alloc: Global,
+        _schemas: &mut Vec<(String, RefOr<Schema>)>,
+    ) -> Result<(), AllocError> {
         Ok(())
     }
 }
@@ -246,7 +267,10 @@ impl ToSchema for u16 {
         CowStr::Borrowed("u16")
     }
 
-    fn schemas(_alloc: Global, _schemas: &mut Vec<(String, RefOr<Schema>)>) -> Result<(), AllocError> {
+    fn schemas(
+        _alloc: Global,
+        _schemas: &mut Vec<(String, RefOr<Schema>)>,
+    ) -> Result<(), AllocError> {
         Ok(())
     }
 }
@@ -276,7 +300,10 @@ impl ToSchema for u32 {
         CowStr::Borrowed("u32")
     }
 
-    fn schemas(_alloc: Global, _schemas: &mut Vec<(String, RefOr<Schema>)>) -> Result<(), AllocError> {
+    fn schemas(
+        _alloc: Global,
+        _schemas: &mut Vec<(String, RefOr<Schema>)>,
+    ) -> Result<(), AllocError> {
         Ok(())
     }
 }
@@ -306,7 +333,10 @@ impl ToSchema for u64 {
         CowStr::Borrowed("u64")
     }
 
-    fn schemas(_alloc: Global, _schemas: &mut Vec<(String, RefOr<Schema>)>) -> Result<(), AllocError> {
+    fn schemas(
+        _alloc: Global,
+        _schemas: &mut Vec<(String, RefOr<Schema>)>,
+    ) -> Result<(), AllocError> {
         Ok(())
     }
 }
@@ -336,7 +366,10 @@ impl ToSchema for u128 {
         CowStr::Borrowed("u128")
     }
 
-    fn schemas(_alloc: Global, _schemas: &mut Vec<(String, RefOr<Schema>)>) -> Result<(), AllocError> {
+    fn schemas(
+        _alloc: Global,
+        _schemas: &mut Vec<(String, RefOr<Schema>)>,
+    ) -> Result<(), AllocError> {
         Ok(())
     }
 }
@@ -366,7 +399,10 @@ impl ToSchema for usize {
         CowStr::Borrowed("usize")
     }
 
-    fn schemas(_alloc: Global, _schemas: &mut Vec<(String, RefOr<Schema>)>) -> Result<(), AllocError> {
+    fn schemas(
+        _alloc: Global,
+        _schemas: &mut Vec<(String, RefOr<Schema>)>,
+    ) -> Result<(), AllocError> {
         Ok(())
     }
 }

@@ -49,10 +49,7 @@ fn known(format: Option<KnownFormat>) -> Option<SchemaFormat>
 pub(crate) fn anything(alloc: Global) -> RefOr<Schema>
     ensures { place_doc result ≡ anything_doc }
 {
-    RefOr::T(Schema::Object(Object::with_type(
-        alloc,
-        SchemaType::AnyValue,
-    )))
+    RefOr::T(Schema::Object(Object::with_type(alloc, SchemaType::AnyValue)))
 }
 
 /// Any value, null where there is none. Takes no memory.
@@ -73,7 +70,11 @@ pub(crate) fn nullable(alloc: Global, schema: RefOr<Schema>) -> Result<RefOr<Sch
 }
 
 /// An array of such items, which may have to be unique. Fails where memory runs out.
-pub(crate) fn array(alloc: Global, items: RefOr<Schema>, unique: bool) -> Result<RefOr<Schema>, AllocError>
+pub(crate) fn array(
+    alloc: Global,
+    items: RefOr<Schema>,
+    unique: bool,
+) -> Result<RefOr<Schema>, AllocError>
     ensures { IfOk result (λ made. place_doc made ≡ array_of (place_doc items) unique) }
 {
     let mut array = Array::new(alloc, items)?;

@@ -14,7 +14,8 @@ use std::hash::{BuildHasher, Hash};
 use utoipa_base::RefOr;
 use utoipa_schema::Schema;
 
-impl<K: ComposeSchema + Eq + Hash, T: ComposeSchema, S: BuildHasher> ComposeSchema for HashMap<K, T, S> {
+impl<K: ComposeSchema + Eq + Hash, T: ComposeSchema, S: BuildHasher> ComposeSchema
+    for HashMap<K, T, S> {
     ghost composed = { map_composed K.composed T.composed };
 
     fn compose(alloc: Global, schemas: Vec<RefOr<Schema>>) -> Result<RefOr<Schema>, ComposeFault> {
@@ -23,7 +24,8 @@ impl<K: ComposeSchema + Eq + Hash, T: ComposeSchema, S: BuildHasher> ComposeSche
     }
 }
 
-impl<K: ComposeSchema + Eq + Hash, T: ComposeSchema, S: BuildHasher> PartialSchema for HashMap<K, T, S> {
+impl<K: ComposeSchema + Eq + Hash, T: ComposeSchema, S: BuildHasher> PartialSchema
+    for HashMap<K, T, S> {
     ghost described = { map_composed K.composed T.composed [] };
 
     fn schema(alloc: Global) -> Result<RefOr<Schema>, ComposeFault> {
@@ -31,7 +33,8 @@ impl<K: ComposeSchema + Eq + Hash, T: ComposeSchema, S: BuildHasher> PartialSche
     }
 }
 
-impl<K: ComposeSchema + ToSchema + Eq + Hash, T: ComposeSchema + ToSchema, S: BuildHasher> ToSchema for HashMap<K, T, S> {
+impl<K: ComposeSchema + ToSchema + Eq + Hash, T: ComposeSchema + ToSchema, S: BuildHasher> ToSchema
+    for HashMap<K, T, S> {
     ghost named = { codes "HashMap" };
 
     ghost referred = { K.referred ++ T.referred };
@@ -40,7 +43,10 @@ impl<K: ComposeSchema + ToSchema + Eq + Hash, T: ComposeSchema + ToSchema, S: Bu
         CowStr::Borrowed("HashMap")
     }
 
-    fn schemas(alloc: Global, schemas: &mut Vec<(String, RefOr<Schema>)>) -> Result<(), AllocError> {
+    fn schemas(
+        alloc: Global,
+        schemas: &mut Vec<(String, RefOr<Schema>)>,
+    ) -> Result<(), AllocError> {
         referred_by_both::<K, T>(alloc, schemas)
     }
 }
@@ -71,7 +77,10 @@ impl<K: ComposeSchema + ToSchema + Ord, T: ComposeSchema + ToSchema> ToSchema fo
         CowStr::Borrowed("BTreeMap")
     }
 
-    fn schemas(alloc: Global, schemas: &mut Vec<(String, RefOr<Schema>)>) -> Result<(), AllocError> {
+    fn schemas(
+        alloc: Global,
+        schemas: &mut Vec<(String, RefOr<Schema>)>,
+    ) -> Result<(), AllocError> {
         referred_by_both::<K, T>(alloc, schemas)
     }
 }
@@ -93,7 +102,8 @@ impl<K: ComposeSchema + Eq + Hash, T: ComposeSchema> PartialSchema for IndexMap<
     }
 }
 
-impl<K: ComposeSchema + ToSchema + Eq + Hash, T: ComposeSchema + ToSchema> ToSchema for IndexMap<K, T> {
+impl<K: ComposeSchema + ToSchema + Eq + Hash, T: ComposeSchema + ToSchema> ToSchema
+    for IndexMap<K, T> {
     ghost named = { codes "IndexMap" };
 
     ghost referred = { K.referred ++ T.referred };
@@ -102,7 +112,10 @@ impl<K: ComposeSchema + ToSchema + Eq + Hash, T: ComposeSchema + ToSchema> ToSch
         CowStr::Borrowed("IndexMap")
     }
 
-    fn schemas(alloc: Global, schemas: &mut Vec<(String, RefOr<Schema>)>) -> Result<(), AllocError> {
+    fn schemas(
+        alloc: Global,
+        schemas: &mut Vec<(String, RefOr<Schema>)>,
+    ) -> Result<(), AllocError> {
         referred_by_both::<K, T>(alloc, schemas)
     }
 }

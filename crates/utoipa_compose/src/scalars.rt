@@ -6,11 +6,11 @@ ghost use Rattle.utoipa_compose.specs.Made.{boolean, text};
 ghost use Rattle.utoipa_compose.specs.declared.fault.ComposeFault.TheVariants.{KeyIsReference};
 
 use crate::fault::ComposeFault;
-use crate::made::{typed};
+use crate::made::typed;
 use crate::traits::{ComposeSchema, PartialSchema, ToSchema, schema_of};
 use std::alloc::{AllocError, Global};
 use std::borrow::CowStr;
-use utoipa_base::{RefOr};
+use utoipa_base::RefOr;
 use utoipa_schema::{Schema, TypeWord};
 
 impl ComposeSchema for bool {
@@ -38,7 +38,10 @@ impl ToSchema for bool {
         CowStr::Borrowed("bool")
     }
 
-    fn schemas(_alloc: Global, _schemas: &mut Vec<(String, RefOr<Schema>)>) -> Result<(), AllocError> {
+    fn schemas(
+        _alloc: Global,
+        _schemas: &mut Vec<(String, RefOr<Schema>)>,
+    ) -> Result<(), AllocError> {
         Ok(())
     }
 }
@@ -68,7 +71,10 @@ impl ToSchema for String {
         CowStr::Borrowed("String")
     }
 
-    fn schemas(_alloc: Global, _schemas: &mut Vec<(String, RefOr<Schema>)>) -> Result<(), AllocError> {
+    fn schemas(
+        _alloc: Global,
+        _schemas: &mut Vec<(String, RefOr<Schema>)>,
+    ) -> Result<(), AllocError> {
         Ok(())
     }
 }
@@ -140,7 +146,10 @@ impl ToSchema for char {
         CowStr::Borrowed("char")
     }
 
-    fn schemas(_alloc: Global, _schemas: &mut Vec<(String, RefOr<Schema>)>) -> Result<(), AllocError> {
+    fn schemas(
+        _alloc: Global,
+        _schemas: &mut Vec<(String, RefOr<Schema>)>,
+    ) -> Result<(), AllocError> {
         Ok(())
     }
 }

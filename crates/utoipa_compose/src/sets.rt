@@ -4,7 +4,7 @@ ghost use Rattle.utoipa_compose.specs.Compositions.{set_composed};
 
 use crate::fault::ComposeFault;
 use crate::made::array;
-use crate::parts::{first};
+use crate::parts::first;
 use crate::traits::{ComposeSchema, PartialSchema, ToSchema, schema_of};
 use indexmap::IndexSet;
 use std::alloc::{AllocError, Global};
@@ -39,7 +39,10 @@ impl<K: ComposeSchema + ToSchema + Eq + Hash, S: BuildHasher> ToSchema for HashS
         CowStr::Borrowed("HashSet")
     }
 
-    fn schemas(alloc: Global, schemas: &mut Vec<(String, RefOr<Schema>)>) -> Result<(), AllocError> {
+    fn schemas(
+        alloc: Global,
+        schemas: &mut Vec<(String, RefOr<Schema>)>,
+    ) -> Result<(), AllocError> {
         K::schemas(alloc, schemas)
     }
 }
@@ -69,7 +72,10 @@ impl<K: ComposeSchema + ToSchema + Ord> ToSchema for BTreeSet<K> {
         CowStr::Borrowed("BTreeSet")
     }
 
-    fn schemas(alloc: Global, schemas: &mut Vec<(String, RefOr<Schema>)>) -> Result<(), AllocError> {
+    fn schemas(
+        alloc: Global,
+        schemas: &mut Vec<(String, RefOr<Schema>)>,
+    ) -> Result<(), AllocError> {
         K::schemas(alloc, schemas)
     }
 }
@@ -99,7 +105,10 @@ impl<K: ComposeSchema + ToSchema + Eq + Hash> ToSchema for IndexSet<K> {
         CowStr::Borrowed("IndexSet")
     }
 
-    fn schemas(alloc: Global, schemas: &mut Vec<(String, RefOr<Schema>)>) -> Result<(), AllocError> {
+    fn schemas(
+        alloc: Global,
+        schemas: &mut Vec<(String, RefOr<Schema>)>,
+    ) -> Result<(), AllocError> {
         K::schemas(alloc, schemas)
     }
 }

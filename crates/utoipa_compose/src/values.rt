@@ -28,7 +28,10 @@ impl ToSchema for () {
         CowStr::Borrowed("TupleUnit")
     }
 
-    fn schemas(_alloc: Global, _schemas: &mut Vec<(String, RefOr<Schema>)>) -> Result<(), AllocError> {
+    fn schemas(
+        _alloc: Global,
+        _schemas: &mut Vec<(String, RefOr<Schema>)>,
+    ) -> Result<(), AllocError> {
         Ok(())
     }
 }
@@ -50,7 +53,10 @@ impl ToSchema for Value {
         CowStr::Borrowed("Value")
     }
 
-    fn schemas(_alloc: Global, _schemas: &mut Vec<(String, RefOr<Schema>)>) -> Result<(), AllocError> {
+    fn schemas(
+        _alloc: Global,
+        _schemas: &mut Vec<(String, RefOr<Schema>)>,
+    ) -> Result<(), AllocError> {
         Ok(())
     }
 }

@@ -47,10 +47,7 @@ pub fn referred<T: ToSchema>(alloc: Global) -> Result<String, AllocError> {
     }
 }
 
-fn names_of(
-    alloc: Global,
-    schemas: &[(String, RefOr<Schema>)],
-) -> Result<String, AllocError> {
+fn names_of(alloc: Global, schemas: &[(String, RefOr<Schema>)]) -> Result<String, AllocError> {
     let mut names = String::new(alloc);
     for (name, _) in schemas {
         names.push_str(name.as_str())?;
@@ -59,10 +56,7 @@ fn names_of(
     Ok(names)
 }
 
-fn told(
-    alloc: Global,
-    outcome: Result<RefOr<Schema>, ComposeFault>,
-) -> Result<String, AllocError> {
+fn told(alloc: Global, outcome: Result<RefOr<Schema>, ComposeFault>) -> Result<String, AllocError> {
     match outcome {
         Ok(schema) => printed(alloc, &schema),
         Err(fault) => format!(in alloc; "refused: {fault}"),

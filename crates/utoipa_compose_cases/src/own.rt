@@ -38,7 +38,10 @@ impl ToSchema for Flag {
         CowStr::Borrowed("Flag")
     }
 
-    fn schemas(alloc: Global, schemas: &mut Vec<(String, RefOr<Schema>)>) -> Result<(), AllocError> {
+    fn schemas(
+        alloc: Global,
+        schemas: &mut Vec<(String, RefOr<Schema>)>,
+    ) -> Result<(), AllocError> {
         let name = String::from_str(alloc, "Flag")?;
         let Ok(schema) = bool::schema(alloc) else {
             return Err(AllocError);

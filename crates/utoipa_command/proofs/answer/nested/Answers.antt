@@ -44,7 +44,8 @@ returns-clause-err c =
     let first = c.into_iter-documents.result.rest in
     let second = c.next.new.self.rest in
     count_refused openapi_doc c.args.base.now (view c.args.tree) given read.plain read.ok (elim c.in_default.branch [
-      in_default-via-in-Some+in-Some+in_default w ↦ has_third _ _ _ _ _ _ _ _ all w.in_default.ensures.items w.in_default.ensures'.items w.in_default.ensures''.items
+      | in_default-via-in-Some+in-Some+in_default w ↦ has_third _ _ _ _ _ _ _ _ all w.in_default.ensures.items w.in_default.ensures'.items w.in_default.ensures''.items
       | in_default-via-in-Some+in_default w ↦ no_second _ _ _ _ all w.in_default.ensures.items
           (none_to_give _ _ _ second.items second.len second.ok.0 c.next-2.ensures.cases w.in_default.is-1)
-      | in_default-via-in_default w ↦ no_first _ _ all (none_to_give _ _ _ first.items first.len first.ok.0 c.next.ensures.cases w.in_default.is-0) ])
+      | in_default-via-in_default w ↦ no_first _ _ all (none_to_give _ _ _ first.items first.len first.ok.0 c.next.ensures.cases w.in_default.is-0)
+    ])
