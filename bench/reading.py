@@ -9,13 +9,13 @@ refused. Each time is that of the processor, the least of three runs; the memory
 With --beside, the same of another build of the program, by turns.
 """
 import os
-import subprocess
 import sys
 import tempfile
 
+from runs import best
+
 HERE = os.path.dirname(os.path.abspath(__file__))
 COMMAND = os.path.join(HERE, "..", "utoipa_doc")
-RUNS = 3
 
 # Properties as services write them.
 ORDINARY = (
@@ -47,22 +47,6 @@ def write_schema(path, megabytes, properties):
         out.write("}}")
 
 
-def measured(program, word, path, status):
-    """The seconds and the memory of a run, which has to end with this status."""
-    with open(path) as text:
-        ran = subprocess.Popen([program, word], stdin=text, stdout=subprocess.DEVNULL, stderr=subprocess.DEVNULL)
-        ended, used = os.wait4(ran.pid, 0)[1:]
-    if os.waitstatus_to_exitcode(ended) != status:
-        sys.exit("%s %s ended with status %d, not %d" % (word, path, os.waitstatus_to_exitcode(ended), status))
-    return used.ru_utime + used.ru_stime, used.ru_maxrss / 1024
-
-
-def best(programs, word, path, status):
-    """For each program the least time and the greatest memory of some runs, which take turns."""
-    runs = [[measured(program, word, path, status) for program in programs] for _ in range(RUNS)]
-    return [(min(it[at][0] for it in runs), max(it[at][1] for it in runs)) for at in range(len(programs))]
-
-
 def main():
     words, programs = sys.argv[1:], [COMMAND]
     if words[:1] == ["--beside"]:
@@ -78,8 +62,8 @@ def main():
             for megabytes in sizes:
                 path = os.path.join(folder, "%s-%d.json" % (name, megabytes))
                 write_schema(path, megabytes, properties)
-                parsed = best(programs[:1], "server", path, 1)[0][0]
-                (whole, memory), *others = best(programs, "schema", path, 0)
+                parsed = best([([COMMAND, "server"], path, 1)])[0][0]
+                (whole, memory), *others = best([([it, "schema"], path, 0) for it in programs])
                 cells = ["%.2f" % parsed, "%.2f" % whole, "%.1f" % (megabytes / whole), "%.0f" % memory]
                 cells += ["%.2f | %.0f" % it for it in others]
                 print("| %s | %d | %s |" % (name, megabytes, " | ".join(cells)), flush=True)

@@ -7,12 +7,14 @@ Cases written by hand are in tables/*.txt of each program's folder, as crates/ut
 
     # what the next cases show               printed as it is, in both files
     CALL                                     the call of the next cases, at the beginning of a line
+    CALL ; CALL                              several calls, each of which is given all inputs and has to give the same answers
       INPUT                                  two spaces, then what the call is given
       & INPUT                                a second input, of the calls that take two
-      = ANSWER                               the answer, of all inputs since the last one; `=` alone: the input itself, after
-                                             `0 ` where the call runs the command
+      = ANSWER                               the answer, of all inputs since the last one; `=` alone: the input itself, the first
+                                             of two, after `0 ` where the call runs the command
 
-In a line, <12*TEXT> is TEXT twelve times, and <0*> nothing. The input of `run-hex` is written with Python's escapes.
+In a line, <12*TEXT> is TEXT twelve times, and <0*> nothing; <01..12*TEXT> is TEXT once for each number from 1 to 12, which stands in
+the place of each % in it, with as many digits as the first number has. The input of `run-hex` is written with Python's escapes.
 
 The sweeps over the member tables are made here, from the tables of docs/FORMAT.md: each member of each type that is built,
 with a value that fits, absent, null, and with a value of another kind, on the smallest document of its type.
@@ -31,7 +33,7 @@ import sys
 ROOT = os.path.dirname(os.path.dirname(os.path.abspath(__file__)))
 
 # The programs of cases. Of the types of docs/FORMAT.md, the second knows those of DOCUMENT_TYPES, and the first all others.
-PROGRAMS = ("utoipa_cases", "utoipa_document_cases", "utoipa_command_cases")
+PROGRAMS = ("utoipa_cases", "utoipa_compose_cases", "utoipa_document_cases", "utoipa_command_cases")
 DOCUMENT_TYPES = ("Operation", "PathItem", "Callback", "Paths", "Components", "OpenApi")
 
 
@@ -55,32 +57,44 @@ class Cases:
 
 
 def repeated(text):
+    text = re.sub(r"<(\d+)\.\.(\d+)\*([^<>]*)>", numbered, text)
     return re.sub(r"<(\d+)\*([^<>]*)>", lambda it: it[2] * int(it[1]), text)
+
+
+def numbered(it):
+    numbers = range(int(it[1]), int(it[2]) + 1)
+    return "".join(it[3].replace("%", str(number).zfill(len(it[1]))) for number in numbers)
 
 
 def hexadecimal(text):
     return ast.literal_eval("b'''%s'''" % text).hex()
 
 
+def itself(call, given):
+    """The answer of a call that gives again what it was given."""
+    return ("0 " if call.split(" ")[0] in ("run", "steps") else "") + given.split("\t")[0]
+
+
 def add_by_hand(cases, lines, file):
-    call, inputs = None, []
+    calls, inputs = [], []
     for number, line in enumerate(lines, 1):
         if not line.strip() or line.startswith("#"):
             if inputs:
                 sys.exit("%s:%d: an input has no answer" % (file, number - 1))
             cases.say(line)
         elif line.startswith("  = ") or line.strip() == "=":
-            for given in inputs:
-                itself = ("0 " if call.split(" ")[0] in ("run", "steps") else "") + given
-                cases.add(call, given, repeated(line[4:]) if line.startswith("  = ") else itself)
+            answer = repeated(line[4:]) if line.startswith("  = ") else None
+            for call in calls:
+                for given in inputs:
+                    cases.add(call, given, itself(call, given) if answer is None else answer)
             inputs = []
         elif line.startswith("  & "):
             inputs[-1] += "\t" + repeated(line[4:])
         elif line.startswith("  "):
             given = line[2:]
-            inputs.append(hexadecimal(given) if call.startswith("run-hex") else repeated(given))
+            inputs.append(hexadecimal(given) if calls[0].startswith("run-hex") else repeated(given))
         else:
-            call = repeated(line)
+            calls = repeated(line).split(" ; ")
 
 
 # ---- the member tables of docs/FORMAT.md

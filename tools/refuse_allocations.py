@@ -34,6 +34,30 @@ COMMANDS = [
     (["document"], "examples/shop-3.2.json", None),
 ]
 
+# A document of these components, paths and servers: two of them, and what the second is merged and nested into the first as.
+DOCUMENT = '{"components":%s,"info":{"title":"t","version":"1"},"openapi":"3.1.0","paths":%s,"servers":%s}'
+FIRST = DOCUMENT % (
+    '{"examples":{"E":{"value":1}}}',
+    '{"/a":{"get":{"operationId":"g1","responses":{}}}}',
+    '[{"url":"A"}]',
+)
+SECOND = DOCUMENT % (
+    '{"examples":{"E":{"value":2},"F":{}},"schemas":{"S":{"type":"string"}}}',
+    '{"/a":{"get":{"operationId":"g2","responses":{}},"post":{"operationId":"p2","responses":{}}},"/b":{}}',
+    '[{"url":"A"},{"url":"B"},{"url":"B"}]',
+)
+MERGED = DOCUMENT % (
+    '{"examples":{"E":{"value":1},"F":{}},"schemas":{"S":{"type":"string"}}}',
+    '{"/a":{"get":{"operationId":"g1","responses":{}},"post":{"operationId":"p2","responses":{}}},"/b":{}}',
+    '[{"url":"A"},{"url":"B"},{"url":"B"}]',
+)
+NESTED = DOCUMENT % (
+    '{"examples":{"E":{"value":1},"F":{}},"schemas":{"S":{"type":"string"}}}',
+    '{"/a":{"get":{"operationId":"g1","responses":{}}},'
+    '"/v1/a":{"get":{"operationId":"g2","responses":{}},"post":{"operationId":"p2","responses":{}}},"/v1/b":{}}',
+    '[{"url":"A"},{"url":"B"},{"url":"B"}]',
+)
+
 # The same of an input that is in no file: the words, the input, and the answer.
 COMMANDS_ON_TEXTS = [
     (
@@ -41,6 +65,8 @@ COMMANDS_ON_TEXTS = [
         '{"openapi":"3.1.x.0","info":{"title":"t","version":"1"},"paths":{"x-team":"a","/a":{}}}',
         '{"info":{"title":"t","version":"1"},"openapi":"3.1.0","paths":{"/a":{},"x-team":"a"}}\n',
     ),
+    (["merge"], "[%s,%s]" % (FIRST, SECOND), MERGED + "\n"),
+    (["nest", "/v1"], "[%s,%s]" % (FIRST, SECOND), NESTED + "\n"),
 ]
 
 # The command says that memory was refused, and nothing else.
@@ -49,17 +75,30 @@ COMMAND_TELLS = [Outcome(1, "", "refused: memory\n")]
 # ---- The calls of the programs of cases: lines of crates/PROGRAM/stdin, by how they begin. Those of the command's runs are not tried:
 # the command itself is, above.
 
-CASE_PROGRAMS = ("utoipa_cases", "utoipa_document_cases")
+CASE_PROGRAMS = ("utoipa_cases", "utoipa_compose_cases", "utoipa_document_cases")
+
+# Longer lines are not tried: those that merge 200 documents make thousands of requests, and each request takes a run of its own.
+LONGEST = 10000
 
 # How a line begins; how many lines of each call are tried, those with the longest inputs; and what the program may print in place of
 # the answer. A text that was not read for want of memory is no tree to it.
 CASES = [
     # Reads the tree as a type, copies the value, writes and prints it.
     ("read ", 1, ["refused: memory", "no tree"]),
+    # Composes a type over the schemas of a list.
+    ("compose ", 2, ["refused: out of memory", "no list of schemas"]),
+    # Puts schemas at the end of a list, and prints the second line where the list is then what it was.
+    ("schemas ", 1, ["refused: memory", "refused: memory, and nothing has changed"]),
     # Change a value, and print the second line where the value's tree is what it was; where it is not, they print another one.
     ("merge PathItem\t", 100, ["refused: memory", "refused: memory, and nothing has changed", "no tree"]),
     ("merge Paths\t", 100, ["refused: memory", "refused: memory, and nothing has changed", "no tree"]),
+    ("merge OpenApi\t", 6, ["refused: memory", "refused: memory, and nothing has changed", "no tree"]),
     ("add ", 100, ["refused: memory", "refused: memory, and nothing has changed", "no tree"]),
+    # Take the documents of a list.
+    ("merge-all\t", 6, ["refused: memory"]),
+    ("merge-pairs ", 6, ["refused: memory"]),
+    # Nests a document. The composer of paths takes memory too, and where that is refused it refuses the path.
+    ("composed ", 6, ["refused: memory", "refused: composer", "no tree"]),
 ]
 
 # What a program of cases says on standard error, with status 1, where its own reading or writing of lines was refused memory.
@@ -119,7 +158,7 @@ def calls_of_cases(program):
     for beginning, most, told in CASES:
         by_call = {}
         for line, answer in lines:
-            if line.startswith(beginning):
+            if line.startswith(beginning) and len(line) <= LONGEST:
                 by_call.setdefault(line.partition("\t")[0], []).append((line, answer))
         for of_call in by_call.values():
             of_call.sort(key=lambda it: -len(it[0]))

@@ -10,8 +10,9 @@ body of each.
 
 A round checks a copy of the crate with as many bodies as go together: no two of a function, or of a cycle of functions. A
 function that calls a refused one is not judged, so its body goes into the next round. Ends with status 1 where a body is
-not refused or can't be tried, or where a function is refused that no body changes. Check the crate first: the copy takes
-over what that kept, and a body then takes five to fifteen seconds of a processor.
+not refused or can't be tried, or where a function is refused that no body changes. A body takes five to fifteen seconds of
+a processor, and each round one to three minutes before the first. Only the functions that the bodies change are checked, by
+the libraries below, which have to be built; the copy takes over what a check of the crate kept.
 """
 import collections
 import glob
@@ -41,7 +42,9 @@ def type_named(line):
     variables = re.findall(r"(?:^|, )'?(\w+)", taken or "") if kind == "impl" else []
     of_trait, _, of_type = named.replace("&", "Ref ").replace("[", "Slice ").rpartition(" for ")
     if of_type.startswith("("):
-        of_type = "Tuple%d" % (of_type.count(",") + 1) if "," in of_type else "Unit"
+        # The commas between the items, not those inside of one.
+        outer = re.sub(r"<.*?>", "", of_type)
+        of_type = "Tuple%d %s" % (outer.count(",") + 1, of_type) if "," in outer else "Unit"
     words = [it for it in re.findall(r"\w+", of_type) + re.findall(r"\w+", of_trait) if it not in variables]
     return "".join(it[0].upper() + it[1:] for it in words)
 
@@ -133,6 +136,13 @@ def copy_with_libraries(crate, room):
     return os.path.join(room, "crates", crate)
 
 
+def narrowed(crate, bodies):
+    """Returns the words that have only the bodies' functions checked, where each body changes some."""
+    if not all(body.functions for body in bodies):
+        return []
+    return [word for body in bodies for it in body.functions for word in ("--only", "%s::%s" % (crate, it))]
+
+
 def check_with(crate, bodies):
     """Checks a copy of a crate with the bodies in it. Returns what is said of each function, and all that is said."""
     with tempfile.TemporaryDirectory() as room:
@@ -145,7 +155,7 @@ def check_with(crate, bodies):
             with open(os.path.join(folder, changed), "w") as source:
                 source.write("\n".join(text))
         how = {"stdout": subprocess.PIPE, "stderr": subprocess.STDOUT, "text": True}
-        said = subprocess.run(["rt", "check", "--jobs", "1"], cwd=folder, **how).stdout
+        said = subprocess.run(["rt", "check", "--jobs", "1", *narrowed(crate, bodies)], cwd=folder, **how).stdout
     found = dict(re.findall(r"^fn %s::(\S+): (.*)" % crate, said, re.M))
     for function, words in found.items():
         waits = re.search(r"which (is|are) not proved|waits for", words)

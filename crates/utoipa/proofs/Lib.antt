@@ -1,2 +1,7 @@
+pub mod AnyFraction
+pub mod Bracketed
+pub mod MergedDocuments
+pub mod Mounted
+pub mod PartsOfDocuments
 pub mod PrettyTexts
 pub mod TextReadings

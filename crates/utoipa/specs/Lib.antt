@@ -1,2 +1,4 @@
+pub mod Merging
+pub mod Nesting
 pub mod OpenApi
 pub mod Texts

@@ -7,7 +7,7 @@ ghost use Rattle.utoipa.specs.OpenApi.{built_openapi, IsEmptyOpenApi};
 
 use crate::document::OpenApi;
 use std::alloc::{AllocError, Global};
-use utoipa_base::list_if_any;
+use utoipa_base::{list_if_any, set};
 use utoipa_components::Components;
 use utoipa_leaf::external_docs::ExternalDocs;
 use utoipa_leaf::info::Info;
@@ -63,8 +63,8 @@ impl OpenApiBuilder {
         ensures { IfOk result (λ b. (listed : _) × IsFilledIfAny I.next_gives servers listed
             × (built_openapi b ≡ record (built_openapi self) { servers = listed })) }
     {
-        self.document.servers = list_if_any(alloc, servers)?;
-        Ok(self)
+        let servers = list_if_any(alloc, servers);
+        set(&mut self.document.servers, servers).and(Ok(self))
     }
 
     /// Sets the paths of the API.
@@ -104,8 +104,8 @@ impl OpenApiBuilder {
         ensures { IfOk result (λ b. (listed : _) × IsFilledIfAny I.next_gives security listed
             × (built_openapi b ≡ record (built_openapi self) { security = listed })) }
     {
-        self.document.security = list_if_any(alloc, security)?;
-        Ok(self)
+        let security = list_if_any(alloc, security);
+        set(&mut self.document.security, security).and(Ok(self))
     }
 
     /// Sets what is to be said of tags. The iterator has to end.
@@ -121,8 +121,8 @@ impl OpenApiBuilder {
         ensures { IfOk result (λ b. (listed : _) × IsFilledIfAny I.next_gives tags listed
             × (built_openapi b ≡ record (built_openapi self) { tags = listed })) }
     {
-        self.document.tags = list_if_any(alloc, tags)?;
-        Ok(self)
+        let tags = list_if_any(alloc, tags);
+        set(&mut self.document.tags, tags).and(Ok(self))
     }
 
     /// Sets the further documentation.

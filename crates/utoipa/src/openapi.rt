@@ -1,7 +1,9 @@
 //! An OpenAPI document and all that may stand in one, each in the module of its object. What is used most stands here too.
 
+pub use crate::bracketing::{Bracketing, merge_all, merge_tree};
 pub use crate::builder::OpenApiBuilder;
 pub use crate::document::OpenApi;
+pub use crate::merging::MergeFault;
 pub use utoipa_base::{Deprecated, Ref, RefOr, Required};
 pub use utoipa_components::{Components, ComponentsBuilder};
 pub use utoipa_leaf::external_docs::ExternalDocs;

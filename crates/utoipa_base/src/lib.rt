@@ -40,7 +40,7 @@ pub use extensions::{
     written_extensions,
 };
 pub use fault::{ReadFault, fitting};
-pub use fill::{boxed_if_any, put_each};
+pub use fill::{boxed_if_any, put, put_each, set};
 pub use fraction::{has_fraction, members_have_fraction};
 pub use lists::{list_from, list_if_any};
 pub use number::Number;

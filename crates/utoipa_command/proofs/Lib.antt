@@ -2,3 +2,5 @@ pub mod Trees
 pub mod Exact
 pub mod Told
 pub mod Served
+pub mod Documents
+pub mod Counts

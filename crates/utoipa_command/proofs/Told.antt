@@ -9,7 +9,7 @@ use Rattle.utoipa_command.specs.Messages.{message_of, refusal_line}
 use Rattle.utoipa_command.specs.declared.command.Outcome.{Outcome}
 use Rattle.utoipa_command.specs.declared.command.Outcome.TheVariants.{Done, Misuse, Refused}
 use Rattle.utoipa_command.specs.declared.refusal.Refusal.{Refusal}
-use Rattle.utoipa_command.specs.declared.refusal.Refusal.TheVariants.{Memory, Read, Write, Text, Fraction, Missing, Kind, Word, Alternative}
+use Rattle.utoipa_command.specs.declared.refusal.Refusal.TheVariants.{Memory, Read, Write, Text, Fraction, Missing, Kind, Word, Alternative, Empty, Count}
 
 -- the outcome whose message begins so
 abbrev named : List ℕ → Outcome
@@ -22,6 +22,8 @@ named front = if bytes_eq front (codes "refused: me") then Refused Memory
     else if bytes_eq front (codes "refused: ki") then Refused Kind
     else if bytes_eq front (codes "refused: wo") then Refused Word
     else if bytes_eq front (codes "refused: al") then Refused Alternative
+    else if bytes_eq front (codes "refused: em") then Refused Empty
+    else if bytes_eq front (codes "refused: co") then Refused Count
     else if bytes_eq front (codes "usage: utoi") then Misuse
     else Done
 
@@ -37,6 +39,8 @@ named-message_of (Refused Missing) = refl
 named-message_of (Refused Kind) = refl
 named-message_of (Refused Word) = refl
 named-message_of (Refused Alternative) = refl
+named-message_of (Refused Empty) = refl
+named-message_of (Refused Count) = refl
 
 is_long : (w : Refusal) → 11 ≤ length (refusal_line w)
 is_long Memory = lit≤ tt
@@ -48,6 +52,8 @@ is_long Missing = lit≤ tt
 is_long Kind = lit≤ tt
 is_long Word = lit≤ tt
 is_long Alternative = lit≤ tt
+is_long Empty = lit≤ tt
+is_long Count = lit≤ tt
 
 -- a front that is as long has the same front
 same_front : (n : ℕ) (m l : List ℕ) → 11 ≤ length l → take n m ≡ l → take 11 m ≡ take 11 l

@@ -2,10 +2,12 @@
 use Rattle.std.specs.Prelude.{ℕ, List, [], codes}
 use Rattle.utoipa_base.specs.declared.fault.ReadFault.{ReadFault}
 use Rattle.utoipa_base.specs.declared.fault.ReadFault.TheVariants as fault
+use Rattle.utoipa.specs.declared.merging.MergeFault.{MergeFault}
+use Rattle.utoipa.specs.declared.merging.MergeFault.TheVariants as merge_fault
 use Rattle.utoipa_command.specs.declared.command.Outcome.{Outcome}
 use Rattle.utoipa_command.specs.declared.command.Outcome.TheVariants.{Done, Misuse, Refused}
 use Rattle.utoipa_command.specs.declared.refusal.Refusal.{Refusal}
-use Rattle.utoipa_command.specs.declared.refusal.Refusal.TheVariants.{Memory, Read, Write, Text, Fraction, Missing, Kind, Word, Alternative}
+use Rattle.utoipa_command.specs.declared.refusal.Refusal.TheVariants.{Memory, Read, Write, Text, Fraction, Missing, Kind, Word, Alternative, Empty, Count}
 
 -- the line of a refusal
 abbrev pub refusal_line : Refusal → List ℕ
@@ -18,6 +20,8 @@ refusal_line Missing = codes "refused: missing\n"
 refusal_line Kind = codes "refused: kind\n"
 refusal_line Word = codes "refused: word\n"
 refusal_line Alternative = codes "refused: alternative\n"
+refusal_line Empty = codes "refused: empty\n"
+refusal_line Count = codes "refused: count\n"
 
 -- the line for words that are no command
 abbrev pub usage_line : List ℕ
@@ -44,3 +48,9 @@ refusal_of (fault.Kind s) = Kind
 refusal_of (fault.Word s) = Word
 refusal_of fault.Alternative = Alternative
 refusal_of fault.Text = Text
+
+-- the refusal for a fault of merging documents
+abbrev pub refusal_of_merging : MergeFault → Refusal
+refusal_of_merging merge_fault.Memory = Memory
+refusal_of_merging merge_fault.Fraction = Fraction
+refusal_of_merging merge_fault.Composer = Memory

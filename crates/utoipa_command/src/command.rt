@@ -1,9 +1,9 @@
 //! The commands of the program, and a run of one of them.
-ghost use Rattle.std.specs.Prelude.{◌≡◌, ◌≢◌, ◌↔◌, map, string_bytes, true, None, OnOk, IfOk, IfErr, IfSome};
+ghost use Rattle.std.specs.Prelude.{◌≡◌, ◌≢◌, ◌↔◌, map, option_map, string_bytes, true, None, OnOk, IfErr, IfSome};
 ghost use Rattle.std.specs.Io.KnownBytes.{IsAtEnd};
 ghost use Rattle.utoipa_command.specs.Answers.{IsCause};
 ghost use Rattle.utoipa_command.specs.Bytes.{reading, writing};
-ghost use Rattle.utoipa_command.specs.Commands.{command_of, command_of_word};
+ghost use Rattle.utoipa_command.specs.Commands.{request_of, request_of_word, request_of_words};
 ghost use Rattle.utoipa_command.specs.Messages.{message_of, status_of};
 ghost use Rattle.utoipa_command.specs.Runs.{Answers, BreaksOff, IsFault, IsRun, IsServed, IsTold, WritesNothing};
 ghost use Rattle.utoipa_command.specs.declared.command.Outcome.{Outcome};
@@ -18,34 +18,40 @@ use std::alloc::Global;
 
 /// What the program is asked to do.
 #[derive(Clone, Copy, Debug, PartialEq, Eq)]
-pub enum Command {
+pub enum Command<'w> {
     /// Reads a server and writes it.
     Server,
     /// Reads a schema, or a reference to one, and writes it.
     Schema,
     /// Reads an OpenAPI document and writes it.
     Document,
+    /// Reads a list of OpenAPI documents and writes what they are merged into.
+    Merge,
+    /// Reads a list of two OpenAPI documents and writes the first with the second nested into it, its paths behind this base.
+    Nest(&'w str),
 }
 
-impl Command {
-    /// The command that the words name.
-    pub fn from_words(words: &[String]) -> Option<Command>
-        ensures { result ≡ command_of (map string_bytes words.now) }
+impl<'w> Command<'w> {
+    /// The command that the words name. A base stays where it is.
+    pub fn from_words(words: &'w [String]) -> Option<Command<'w>>
+        ensures { option_map request_of result ≡ request_of_words (map string_bytes words.now) }
     {
         match words {
             [] => Some(Command::Server),
             [word] => Command::from_word(word.as_str()),
+            [word, base] if word.as_str() == "nest" => Some(Command::Nest(base.as_str())),
             _ => None,
         }
     }
 
-    fn from_word(word: &str) -> Option<Command>
-        ensures { result ≡ command_of_word word.now }
+    fn from_word(word: &str) -> Option<Command<'w>>
+        ensures { option_map request_of result ≡ request_of_word word.now }
     {
         match word {
             "server" => Some(Command::Server),
             "schema" => Some(Command::Schema),
             "document" => Some(Command::Document),
+            "merge" => Some(Command::Merge),
             _ => None,
         }
     }
@@ -94,11 +100,11 @@ fn serve<R: Source, W: Sink>(
     out: &mut W,
 ) -> Result<(), Refusal>
     ensures answered { OnOk result (IfSome (R.remaining input.old)
-        (λ bytes. Answers command bytes (writing (W.room out.old) (W.contents out.old) (W.contents out.new)))) }
+        (λ bytes. Answers (request_of command.entry) bytes (writing (W.room out.old) (W.contents out.old) (W.contents out.new)))) }
     ensures cause { IfErr result (λ w. ¬ IsFault (Outcome.Refused w)
-        → IfSome (R.remaining input.old) (λ bytes. IsCause command bytes w)) }
+        → IfSome (R.remaining input.old) (λ bytes. IsCause (request_of command.entry) bytes w)) }
     ensures broken { IfErr result (λ w. w ≡ Refusal.Write → IfSome (R.remaining input.old)
-        (λ bytes. BreaksOff command bytes (writing (W.room out.old) (W.contents out.old) (W.contents out.new)))) }
+        (λ bytes. BreaksOff (request_of command.entry) bytes (writing (W.room out.old) (W.contents out.old) (W.contents out.new)))) }
     ensures unwritten { IfErr result (λ w. w ≢ Refusal.Write → out.new ≡ out.old) }
     ensures failed { IfErr result (λ w. w ≡ Refusal.Read → R.may_have_failed input.new ≡ true) }
     ensures end { OnOk result (IsAtEnd (R.remaining input.new)) }
@@ -116,10 +122,10 @@ fn perform<R: Source, W: Sink>(
     input: &mut R,
     out: &mut W,
 ) -> Outcome
-    ensures misuse { (result ≡ Outcome.Misuse) ↔ (command_of (map string_bytes words.now) ≡ None) }
+    ensures misuse { (result ≡ Outcome.Misuse) ↔ (request_of_words (map string_bytes words.now) ≡ None) }
     ensures unread { result ≡ Outcome.Misuse → input.new ≡ input.old }
     ensures unwritten { WritesNothing result → out.new ≡ out.old }
-    ensures served { IfSome (command_of (map string_bytes words.now)) (λ c. IsServed c result
+    ensures served { IfSome (request_of_words (map string_bytes words.now)) (λ r. IsServed r result
         (reading (R.may_have_failed input.new) (R.remaining input.old) (R.remaining input.new))
         (writing (W.room out.old) (W.contents out.old) (W.contents out.new))) }
 {
@@ -153,7 +159,7 @@ pub fn run<R: Source, W: Sink, F: Sink>(
     fault: &mut F,
 ) -> u8
     // The words are judged first, and other words touch neither the input nor the answer.
-    ensures misuse { (result ≡ 2) ↔ (command_of (map string_bytes words.now) ≡ None) }
+    ensures misuse { (result ≡ 2) ↔ (request_of_words (map string_bytes words.now) ≡ None) }
     ensures untouched { result ≡ 2 → (input.new ≡ input.old) × (out.new ≡ out.old) }
 
     // An answer comes with no word on the fault writer.
@@ -161,7 +167,7 @@ pub fn run<R: Source, W: Sink, F: Sink>(
 
     // How it ended, each outcome exactly where it is due, and told so that the line names it.
     ensures run { (o : Outcome) × (result ≡ status_of o) × (WritesNothing o → out.new ≡ out.old)
-        × IsRun (command_of (map string_bytes words.now)) o
+        × IsRun (request_of_words (map string_bytes words.now)) o
         (reading (R.may_have_failed input.new) (R.remaining input.old) (R.remaining input.new))
         (writing (W.room out.old) (W.contents out.old) (W.contents out.new))
         (writing (F.room fault.old) (F.contents fault.old) (F.contents fault.new)) }

@@ -1,10 +1,11 @@
 //! Why a run is refused, and the line that says so.
 ghost use Rattle.std.specs.Prelude.{◌≡◌};
-ghost use Rattle.utoipa_command.specs.Messages.{refusal_line, refusal_of};
+ghost use Rattle.utoipa_command.specs.Messages.{refusal_line, refusal_of, refusal_of_merging};
 ghost use Rattle.utoipa_command.specs.declared.refusal.Refusal.TheVariants.{Memory};
 
 use std::alloc::{AllocError, AllocFailed};
 use utoipa::ReadFault;
+use utoipa::openapi::MergeFault;
 
 /// Why a run is refused.
 #[derive(Clone, Copy, Debug, PartialEq, Eq)]
@@ -27,6 +28,10 @@ pub enum Refusal {
     Word,
     /// No alternative fits.
     Alternative,
+    /// There is no document to merge.
+    Empty,
+    /// There are not two documents, of which the second is to be nested into the first.
+    Count,
 }
 
 impl Refusal {
@@ -44,6 +49,8 @@ impl Refusal {
             Refusal::Kind => "refused: kind\n",
             Refusal::Word => "refused: word\n",
             Refusal::Alternative => "refused: alternative\n",
+            Refusal::Empty => "refused: empty\n",
+            Refusal::Count => "refused: count\n",
         }
     }
 }
@@ -76,6 +83,18 @@ impl From<ReadFault> for Refusal {
             ReadFault::Word(_) => Refusal::Word,
             ReadFault::Alternative => Refusal::Alternative,
             ReadFault::Text => Refusal::Text,
+        }
+    }
+}
+
+impl From<MergeFault> for Refusal {
+    ghost from_gives = { λ e w. w ≡ refusal_of_merging e };
+
+    fn from(fault: MergeFault) -> Refusal {
+        match fault {
+            MergeFault::Fraction => Refusal::Fraction,
+            // A composer of paths refuses for want of memory alone.
+            MergeFault::Memory | MergeFault::Composer => Refusal::Memory,
         }
     }
 }

@@ -1,1 +1,3 @@
+pub mod Refused
+pub mod FilledMaps
 pub mod PutTwice

@@ -18,7 +18,7 @@ ghost use Rattle.utoipa_security.specs.declared.security.scheme.SecurityScheme.{
 
 use crate::components::Components;
 use std::alloc::{AllocError, Global};
-use utoipa_base::{Extensions, RefOr, put_each};
+use utoipa_base::{Extensions, RefOr, put, put_each};
 use utoipa_leaf::example::Example;
 use utoipa_media::content::Content;
 use utoipa_media::header::Header;
@@ -56,8 +56,7 @@ impl ComponentsBuilder {
             × (held.entries ≡ insert_entry string_cmp (built_components self).schemas.entries name schema)
             × (built_components b ≡ record (built_components self) { schemas = held })) }
     {
-        drop(self.components.schemas.insert(name, schema)?);
-        Ok(self)
+        put(&mut self.components.schemas, name, schema).and(Ok(self))
     }
 
     /// Puts each of the schemas, or references to such, under its name, in place of an earlier one of that name. The iterator has
@@ -74,8 +73,7 @@ impl ComponentsBuilder {
             × (held.entries ≡ put_each given (built_components self).schemas.entries)
             × (built_components b ≡ record (built_components self) { schemas = held })) }
     {
-        put_each(&mut self.components.schemas, schemas)?;
-        Ok(self)
+        put_each(&mut self.components.schemas, schemas).and(Ok(self))
     }
 
     /// Puts a response, or a reference to one, under its name, in place of an earlier one of that name.
@@ -90,8 +88,7 @@ impl ComponentsBuilder {
             × (held.entries ≡ insert_entry string_cmp (built_components self).responses.entries name response)
             × (built_components b ≡ record (built_components self) { responses = held })) }
     {
-        drop(self.components.responses.insert(name, response)?);
-        Ok(self)
+        put(&mut self.components.responses, name, response).and(Ok(self))
     }
 
     /// Puts each of the responses, or references to such, under its name, in place of an earlier one of that name. The iterator has
@@ -108,8 +105,7 @@ impl ComponentsBuilder {
             × (held.entries ≡ put_each given (built_components self).responses.entries)
             × (built_components b ≡ record (built_components self) { responses = held })) }
     {
-        put_each(&mut self.components.responses, responses)?;
-        Ok(self)
+        put_each(&mut self.components.responses, responses).and(Ok(self))
     }
 
     /// Puts a parameter, or a reference to one, under its name, in place of an earlier one of that name.
@@ -124,8 +120,7 @@ impl ComponentsBuilder {
             × (held.entries ≡ insert_entry string_cmp (built_components self).parameters.entries name parameter)
             × (built_components b ≡ record (built_components self) { parameters = held })) }
     {
-        drop(self.components.parameters.insert(name, parameter)?);
-        Ok(self)
+        put(&mut self.components.parameters, name, parameter).and(Ok(self))
     }
 
     /// Puts an example, or a reference to one, under its name, in place of an earlier one of that name.
@@ -140,8 +135,7 @@ impl ComponentsBuilder {
             × (held.entries ≡ insert_entry string_cmp (built_components self).examples.entries name example)
             × (built_components b ≡ record (built_components self) { examples = held })) }
     {
-        drop(self.components.examples.insert(name, example)?);
-        Ok(self)
+        put(&mut self.components.examples, name, example).and(Ok(self))
     }
 
     /// Puts a request body, or a reference to one, under its name, in place of an earlier one of that name.
@@ -156,8 +150,7 @@ impl ComponentsBuilder {
             × (held.entries ≡ insert_entry string_cmp (built_components self).request_bodies.entries name request_body)
             × (built_components b ≡ record (built_components self) { request_bodies = held })) }
     {
-        drop(self.components.request_bodies.insert(name, request_body)?);
-        Ok(self)
+        put(&mut self.components.request_bodies, name, request_body).and(Ok(self))
     }
 
     /// Puts a header, or a reference to one, under its name, in place of an earlier one of that name.
@@ -172,8 +165,7 @@ impl ComponentsBuilder {
             × (held.entries ≡ insert_entry string_cmp (built_components self).headers.entries name header)
             × (built_components b ≡ record (built_components self) { headers = held })) }
     {
-        drop(self.components.headers.insert(name, header)?);
-        Ok(self)
+        put(&mut self.components.headers, name, header).and(Ok(self))
     }
 
     /// Puts a link, or a reference to one, under its name, in place of an earlier one of that name.
@@ -184,8 +176,7 @@ impl ComponentsBuilder {
             × (held.entries ≡ insert_entry string_cmp (built_components self).links.entries name link)
             × (built_components b ≡ record (built_components self) { links = held })) }
     {
-        drop(self.components.links.insert(name, link)?);
-        Ok(self)
+        put(&mut self.components.links, name, link).and(Ok(self))
     }
 
     /// Puts a callback, or a reference to one, under its name, in place of an earlier one of that name.
@@ -200,8 +191,7 @@ impl ComponentsBuilder {
             × (held.entries ≡ insert_entry string_cmp (built_components self).callbacks.entries name callback)
             × (built_components b ≡ record (built_components self) { callbacks = held })) }
     {
-        drop(self.components.callbacks.insert(name, callback)?);
-        Ok(self)
+        put(&mut self.components.callbacks, name, callback).and(Ok(self))
     }
 
     /// Puts a path item under its name, in place of an earlier one of that name.
@@ -216,8 +206,7 @@ impl ComponentsBuilder {
             × (held.entries ≡ insert_entry string_cmp (built_components self).path_items.entries name path_item)
             × (built_components b ≡ record (built_components self) { path_items = held })) }
     {
-        drop(self.components.path_items.insert(name, path_item)?);
-        Ok(self)
+        put(&mut self.components.path_items, name, path_item).and(Ok(self))
     }
 
     /// Puts a content, or a reference to one, under its name, in place of an earlier one of that name.
@@ -232,8 +221,7 @@ impl ComponentsBuilder {
             × (held.entries ≡ insert_entry string_cmp (built_components self).media_types.entries name media_type)
             × (built_components b ≡ record (built_components self) { media_types = held })) }
     {
-        drop(self.components.media_types.insert(name, media_type)?);
-        Ok(self)
+        put(&mut self.components.media_types, name, media_type).and(Ok(self))
     }
 
     /// Puts each of the contents, or references to such, under its name, in place of an earlier one of that name. The iterator has
@@ -250,8 +238,7 @@ impl ComponentsBuilder {
             × (held.entries ≡ put_each given (built_components self).media_types.entries)
             × (built_components b ≡ record (built_components self) { media_types = held })) }
     {
-        put_each(&mut self.components.media_types, media_types)?;
-        Ok(self)
+        put_each(&mut self.components.media_types, media_types).and(Ok(self))
     }
 
     /// Puts a security scheme, or a reference to one, under its name, in place of an earlier one of that name.

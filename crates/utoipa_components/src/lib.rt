@@ -3,6 +3,8 @@
 
 mod builder;
 pub mod components;
+pub mod merging;
 
 pub use builder::ComponentsBuilder;
 pub use components::Components;
+pub use merging::{FilledComponents, fill_components, merge_components, take_back_components};

@@ -13,6 +13,9 @@
 //! | `count-from N TYPE` | a JSON text | `within`, where N readings at least were counted, and no more than the tree has values |
 //! | `merge TYPE` | two JSON texts, a tab between | what the first value is written as, once it has taken what it lacks of the second |
 //! | `merge-paths` | a JSON text, a list | what the paths of the list are written as, merged all at once |
+//! | `merge-all` | a JSON text, a list | what the documents of the list are written as, merged all at once; `none` where there is none |
+//! | `merge-pairs SIDE` | a JSON text, a list | the same, merged pair by pair: `left` begins with the first two, `right` with the last two |
+//! | `composed RULE` | two JSON texts, a tab between | what the first document is written as, once the second is nested into it at the base `/v1`, where the composer answers each path by the rule: `fixed` by `/x`, `empty` by the empty text, `turned` by the path and then the base; `refuses` refuses each |
 //! | `add PATH` | three JSON texts, a tab between each: paths, a list of methods, an operation | what the paths are written as, once a copy of the operation was put at each of the methods of PATH |
 //! | `callbacks` | a number | `true`, where an operation in so many callbacks, one in the other, is kept |
 //!
@@ -20,6 +23,7 @@
 //! text.
 #![tactic(auto)]
 
+mod documents;
 mod extended;
 mod extensions;
 mod merged;
@@ -52,6 +56,9 @@ fn answer_to_call(alloc: Global, call: &Call<'_>) -> Result<String, AllocError> 
         "print" => extensions::printed_with_extensions(alloc, call.subject(), call.given),
         "merge" => merged::merged_of_type(alloc, call.subject(), call.given),
         "merge-paths" => merged::merged_list(alloc, call.given),
+        "merge-all" => documents::merged_at_once(alloc, call.given),
+        "merge-pairs" => documents::merged_in_pairs(alloc, call.subject(), call.given),
+        "composed" => documents::nested_by_rule(alloc, call.subject(), call.given),
         "add" => merged::with_operation(alloc, call.subject(), call.given),
         "callbacks" => nested::callbacks_kept(alloc, call.given),
         _ => answer_to_question(alloc, call),

@@ -2,6 +2,7 @@
 
 use serde_json::Value;
 use std::alloc::{AllocError, Global};
+use utoipa::openapi::{MergeFault, OpenApi};
 use utoipa_base::{ReadFault, Tree};
 use utoipa_case_kit::{printed, refused, two_trees};
 use utoipa_leaf::path::HttpMethod;
@@ -10,18 +11,25 @@ use utoipa_paths::{Paths, merge_paths};
 
 /// A type whose values take of another what they lack.
 pub trait Merging: Tree {
-    /// Takes of the other what is missing here. Fails where memory runs out, and then nothing has changed.
-    fn take_missing(&mut self, alloc: Global, other: Self) -> Result<(), AllocError>;
+    /// Takes of the other what is missing here. Fails where the type's own merging does, and then nothing has changed.
+    fn take_missing(&mut self, alloc: Global, other: Self) -> Result<(), MergeFault>;
 }
 
 impl Merging for PathItem {
-    fn take_missing(&mut self, alloc: Global, other: PathItem) -> Result<(), AllocError> {
+    fn take_missing(&mut self, alloc: Global, other: PathItem) -> Result<(), MergeFault> {
         self.merge_operations(alloc, other)
+            .map_err(MergeFault::from)
     }
 }
 
 impl Merging for Paths {
-    fn take_missing(&mut self, alloc: Global, other: Paths) -> Result<(), AllocError> {
+    fn take_missing(&mut self, alloc: Global, other: Paths) -> Result<(), MergeFault> {
+        self.merge(alloc, other).map_err(MergeFault::from)
+    }
+}
+
+impl Merging for OpenApi {
+    fn take_missing(&mut self, alloc: Global, other: OpenApi) -> Result<(), MergeFault> {
         self.merge(alloc, other)
     }
 }
@@ -39,6 +47,7 @@ fn of_type(alloc: Global, name: &str, first: &Value, second: &Value) -> Result<S
     match name {
         "PathItem" => merged::<PathItem>(alloc, first, second),
         "Paths" => merged::<Paths>(alloc, first, second),
+        "OpenApi" => merged::<OpenApi>(alloc, first, second),
         _ => String::from_str(alloc, "no such type"),
     }
 }
@@ -91,7 +100,8 @@ fn read_all(
     Ok((paths, methods, read_text::<Operation>(alloc, operation)?))
 }
 
-fn read_text<T: Tree>(alloc: Global, text: &str) -> Result<T, ReadFault> {
+/// The value that a text reads as.
+pub fn read_text<T: Tree>(alloc: Global, text: &str) -> Result<T, ReadFault> {
     match Value::from_str(alloc, text) {
         Ok(tree) => T::from_value(alloc, &tree),
         Err(e) if e.is_memory() => Err(ReadFault::Memory),
@@ -109,22 +119,35 @@ fn added(
     let before = printed(alloc, &paths)?;
     let mut changed = paths;
     let outcome = changed.add_path_operation(alloc, path, methods, operation);
+    let outcome = outcome.map_err(MergeFault::from);
     told(alloc, outcome, before.as_str(), printed(alloc, &changed)?)
 }
 
-// What a value is written as after the call that changes it. Where memory was refused to the call, as a tool has it, the answer tells
+/// Why documents are not merged, by a word for the fault.
+pub fn refusal_of(fault: &MergeFault) -> &'static str {
+    match fault {
+        MergeFault::Memory => "refused: memory",
+        MergeFault::Fraction => "refused: fraction",
+        MergeFault::Composer => "refused: composer",
+    }
+}
+
+// What a value is written as after the call that changes it. Where the call was refused, as a tool has it of memory, the answer tells
 // whether the value is what it was before.
 fn told(
     alloc: Global,
-    outcome: Result<(), AllocError>,
+    outcome: Result<(), MergeFault>,
     before: &str,
     after: String,
 ) -> Result<String, AllocError> {
     match outcome {
         Ok(()) => Ok(after),
-        Err(_) if after.as_str() == before => {
-            String::from_str(alloc, "refused: memory, and nothing has changed")
+        Err(fault) => {
+            let refusal = refusal_of(&fault);
+            if after.as_str() == before {
+                return format!(in alloc; "{refusal}, and nothing has changed");
+            }
+            format!(in alloc; "{refusal}, and changed to {after}")
         }
-        Err(_) => format!(in alloc; "refused: memory, and changed to {after}"),
     }
 }

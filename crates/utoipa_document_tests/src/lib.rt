@@ -7,6 +7,8 @@ mod components;
 #[cfg(test)]
 mod documents;
 #[cfg(test)]
+mod merging;
+#[cfg(test)]
 mod module_paths;
 #[cfg(test)]
 mod paths;

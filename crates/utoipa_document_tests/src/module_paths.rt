@@ -7,13 +7,14 @@ pub mod utoipa_root {
 
 pub mod openapi {
     pub use utoipa::openapi::{
-        AllOf, AllOfBuilder, Array, ArrayBuilder, Components, ComponentsBuilder, Contact,
-        ContactBuilder, Content, ContentBuilder, Deprecated, Discriminator, ExternalDocs, Header,
-        HeaderBuilder, HttpMethod, Info, InfoBuilder, KnownFormat, License, LicenseBuilder, Object,
-        ObjectBuilder, OneOf, OneOfBuilder, OpenApi, OpenApiBuilder, OpenApiVersion, PathItem,
-        Paths, PathsBuilder, Ref, RefOr, Required, Response, ResponseBuilder, Responses,
-        ResponsesBuilder, Schema, SchemaFormat, SecurityRequirement, Server, ServerBuilder,
-        ServerVariable, ServerVariableBuilder, Tag, ToArray, TypeWord,
+        AllOf, AllOfBuilder, Array, ArrayBuilder, Bracketing, Components, ComponentsBuilder,
+        Contact, ContactBuilder, Content, ContentBuilder, Deprecated, Discriminator, ExternalDocs,
+        Header, HeaderBuilder, HttpMethod, Info, InfoBuilder, KnownFormat, License, LicenseBuilder,
+        MergeFault, Object, ObjectBuilder, OneOf, OneOfBuilder, OpenApi, OpenApiBuilder,
+        OpenApiVersion, PathItem, Paths, PathsBuilder, Ref, RefOr, Required, Response,
+        ResponseBuilder, Responses, ResponsesBuilder, Schema, SchemaFormat, SecurityRequirement,
+        Server, ServerBuilder, ServerVariable, ServerVariableBuilder, Tag, ToArray, TypeWord,
+        merge_all, merge_tree,
     };
 }
 

@@ -28,9 +28,13 @@ pub fn read<T: Tree>(rt: &(impl Abort + AllocGlobal), json: &str) -> T {
 
 /// The extension `x-a`, which is 1.
 pub fn extension(rt: &(impl Abort + AllocGlobal)) -> Option<Extensions> {
+    extension_of(rt, Value::from(1u64))
+}
+
+/// The extension `x-a`, which is the tree.
+pub fn extension_of(rt: &(impl Abort + AllocGlobal), tree: Value) -> Option<Extensions> {
     let builder = Extensions::builder(rt.alloc());
-    let name = text(rt, "x-a");
-    let added = builder.add(rt.alloc(), name, Value::from(1u64));
+    let added = builder.add(rt.alloc(), text(rt, "x-a"), tree);
     Some(added.expect(rt, "memory for an extension").build())
 }
 

@@ -1,3 +1,4 @@
+pub mod Built
 pub mod Counts
 pub mod EncodingParts
 pub mod Weights

@@ -10,12 +10,13 @@ ghost use Rattle.utoipa_media.specs.Builders.{built_content, IsContentPlace, IsC
 ghost use Rattle.utoipa_media.specs.declared.types.Content.{out-Content};
 
 use crate::encoding::Encoding;
+use crate::lists::set_list;
 pub use crate::types::Content;
 use serde_json::Value;
 use std::alloc::{AllocError, Global};
 use std::collections::BTreeMap;
 use std::mem;
-use utoipa_base::{Extensions, RefOr, boxed_if_any, list_from, put_each};
+use utoipa_base::{Extensions, RefOr, boxed_if_any, put, put_each, set};
 use utoipa_leaf::example::Example;
 use utoipa_schema::Schema;
 
@@ -65,7 +66,7 @@ impl ContentBuilder {
     pub fn schema(mut self, schema: Option<RefOr<Schema>>) -> ContentBuilder
         ensures { built_content result ≡ record (built_content self) { schema = schema } }
     {
-        self.content.schema = schema;
+        drop(mem::replace(&mut self.content.schema, schema));
         self
     }
 
@@ -73,7 +74,7 @@ impl ContentBuilder {
     pub fn item_schema(mut self, item_schema: Option<RefOr<Schema>>) -> ContentBuilder
         ensures { built_content result ≡ record (built_content self) { item_schema = item_schema } }
     {
-        self.content.item_schema = item_schema;
+        drop(mem::replace(&mut self.content.item_schema, item_schema));
         self
     }
 
@@ -106,8 +107,7 @@ impl ContentBuilder {
             × (held.entries ≡ put_each given (built_content self).examples.entries)
             × (built_content b ≡ record (built_content self) { examples = held })) }
     {
-        put_each(&mut self.content.examples, examples)?;
-        Ok(self)
+        put_each(&mut self.content.examples, examples).and(Ok(self))
     }
 
     /// Puts the encoding of a property under the property's name, in place of an earlier one of that name.
@@ -122,15 +122,14 @@ impl ContentBuilder {
             × (encodings.entries ≡ insert_entry string_cmp (built_content self).encoding.entries property_name encoding)
             × (built_content b ≡ record (built_content self) { encoding = encodings })) }
     {
-        drop(self.content.encoding.insert(property_name, encoding)?);
-        Ok(self)
+        put(&mut self.content.encoding, property_name, encoding).and(Ok(self))
     }
 
     /// Sets how each of the first items is encoded. The iterator has to end.
     ///
     /// Fails where memory runs out, and then gives up what was built.
     pub fn prefix_encoding<I: Iterator<Item = Encoding> + Drop>(
-        self,
+        mut self,
         alloc: Global,
         prefix_encoding: I,
     ) -> Result<ContentBuilder, AllocError>
@@ -139,17 +138,7 @@ impl ContentBuilder {
         ensures { IfOk result (λ b. (listed : ItemEncodings) × IsFilledFrom I.next_gives prefix_encoding listed
             × (built_content b ≡ record (built_content self) { prefix_encoding = listed })) }
     {
-        let listed = list_from(alloc, prefix_encoding)?;
-        Ok(self.with_prefix_encoding(listed))
-    }
-
-    /// Sets the list of the encodings of the first items.
-    fn with_prefix_encoding(mut self, prefix_encoding: Vec<Encoding>) -> ContentBuilder
-        ensures { built_content result ≡ record (built_content self) { prefix_encoding = prefix_encoding } }
-    {
-        // An assignment would drop the old list where it stands, for which the check writes no proof here.
-        drop(mem::replace(&mut self.content.prefix_encoding, prefix_encoding));
-        self
+        set_list(&mut self.content.prefix_encoding, alloc, prefix_encoding).and(Ok(self))
     }
 
     /// Sets how the items after the first are encoded.
@@ -163,8 +152,8 @@ impl ContentBuilder {
         ensures { IfOk result (λ b. (boxed : _) × IsBoxedIfAny item_encoding boxed
             × (built_content b ≡ record (built_content self) { item_encoding = boxed })) }
     {
-        self.content.item_encoding = boxed_if_any(alloc, item_encoding)?;
-        Ok(self)
+        let item_encoding = boxed_if_any(alloc, item_encoding);
+        set(&mut self.content.item_encoding, item_encoding).and(Ok(self))
     }
 
     /// Sets the specification extensions.

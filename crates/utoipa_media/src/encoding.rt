@@ -8,11 +8,11 @@ ghost use Rattle.utoipa_media.specs.Builders.{built_encoding, header_place, head
 ghost use Rattle.utoipa_media.specs.declared.types.Encoding.{out-Encoding};
 
 use crate::header::Header;
+use crate::lists::set_list;
 pub use crate::types::Encoding;
 use std::alloc::{AllocError, Global};
 use std::collections::BTreeMap;
-use std::mem;
-use utoipa_base::{Extensions, Ref, RefOr, boxed_if_any, list_from};
+use utoipa_base::{Extensions, Ref, RefOr, boxed_if_any, put, set};
 use utoipa_leaf::path::ParameterStyle;
 
 impl Encoding {
@@ -66,8 +66,7 @@ impl EncodingBuilder {
             × (headers.entries ≡ insert_entry string_cmp (built_encoding self).headers.entries name (header_place header))
             × (built_encoding b ≡ record (built_encoding self) { headers = headers })) }
     {
-        drop(self.encoding.headers.insert(name, RefOr::T(header))?);
-        Ok(self)
+        put(&mut self.encoding.headers, name, RefOr::T(header)).and(Ok(self))
     }
 
     /// Puts a reference to a header under the header's name, in place of an earlier one, or a header, of that name.
@@ -78,8 +77,7 @@ impl EncodingBuilder {
             × (headers.entries ≡ insert_entry string_cmp (built_encoding self).headers.entries name (header_reference reference))
             × (built_encoding b ≡ record (built_encoding self) { headers = headers })) }
     {
-        drop(self.encoding.headers.insert(name, RefOr::Ref(reference))?);
-        Ok(self)
+        put(&mut self.encoding.headers, name, RefOr::Ref(reference)).and(Ok(self))
     }
 
     /// Sets how the property is serialized.
@@ -118,15 +116,14 @@ impl EncodingBuilder {
             × (encodings.entries ≡ insert_entry string_cmp (built_encoding self).encoding.entries property_name encoding)
             × (built_encoding b ≡ record (built_encoding self) { encoding = encodings })) }
     {
-        drop(self.encoding.encoding.insert(property_name, encoding)?);
-        Ok(self)
+        put(&mut self.encoding.encoding, property_name, encoding).and(Ok(self))
     }
 
     /// Sets how each of the first items is encoded. The iterator has to end.
     ///
     /// Fails where memory runs out, and then gives up what was built.
     pub fn prefix_encoding<I: Iterator<Item = Encoding> + Drop>(
-        self,
+        mut self,
         alloc: Global,
         prefix_encoding: I,
     ) -> Result<EncodingBuilder, AllocError>
@@ -135,17 +132,7 @@ impl EncodingBuilder {
         ensures { IfOk result (λ b. (listed : ItemEncodings) × IsFilledFrom I.next_gives prefix_encoding listed
             × (built_encoding b ≡ record (built_encoding self) { prefix_encoding = listed })) }
     {
-        let listed = list_from(alloc, prefix_encoding)?;
-        Ok(self.with_prefix_encoding(listed))
-    }
-
-    /// Sets the list of the encodings of the first items.
-    fn with_prefix_encoding(mut self, prefix_encoding: Vec<Encoding>) -> EncodingBuilder
-        ensures { built_encoding result ≡ record (built_encoding self) { prefix_encoding = prefix_encoding } }
-    {
-        // An assignment would drop the old list where it stands, for which the check writes no proof here.
-        drop(mem::replace(&mut self.encoding.prefix_encoding, prefix_encoding));
-        self
+        set_list(&mut self.encoding.prefix_encoding, alloc, prefix_encoding).and(Ok(self))
     }
 
     /// Sets how the items after the first are encoded.
@@ -159,8 +146,8 @@ impl EncodingBuilder {
         ensures { IfOk result (λ b. (boxed : _) × IsBoxedIfAny item_encoding boxed
             × (built_encoding b ≡ record (built_encoding self) { item_encoding = boxed })) }
     {
-        self.encoding.item_encoding = boxed_if_any(alloc, item_encoding)?;
-        Ok(self)
+        let item_encoding = boxed_if_any(alloc, item_encoding);
+        set(&mut self.encoding.item_encoding, item_encoding).and(Ok(self))
     }
 
     /// Sets the specification extensions.

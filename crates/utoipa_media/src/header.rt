@@ -14,7 +14,8 @@ pub use crate::types::Header;
 use serde_json::Value;
 use std::alloc::{AllocError, Global};
 use std::collections::BTreeMap;
-use utoipa_base::{Deprecated, Extensions, RefOr, put_each};
+use std::mem;
+use utoipa_base::{Deprecated, Extensions, RefOr, put, put_each};
 use utoipa_leaf::example::Example;
 use utoipa_leaf::path::ParameterStyle;
 use utoipa_schema::{Object, Schema, SchemaType, TypeWord};
@@ -66,7 +67,7 @@ impl HeaderBuilder {
     pub fn schema(mut self, schema: Option<RefOr<Schema>>) -> HeaderBuilder
         ensures { built_header result ≡ record (built_header self) { schema = schema } }
     {
-        self.header.schema = schema;
+        drop(mem::replace(&mut self.header.schema, schema));
         self
     }
 
@@ -123,8 +124,7 @@ impl HeaderBuilder {
             × (held.entries ≡ put_each given (built_header self).examples.entries)
             × (built_header b ≡ record (built_header self) { examples = held })) }
     {
-        put_each(&mut self.header.examples, examples)?;
-        Ok(self)
+        put_each(&mut self.header.examples, examples).and(Ok(self))
     }
 
     /// Puts a content, or a reference to one, under its media type, in place of an earlier one of that media type.
@@ -139,8 +139,7 @@ impl HeaderBuilder {
             × (contents.entries ≡ insert_entry string_cmp (built_header self).content.entries media_type content)
             × (built_header b ≡ record (built_header self) { content = contents })) }
     {
-        drop(self.header.content.insert(media_type, content)?);
-        Ok(self)
+        put(&mut self.header.content, media_type, content).and(Ok(self))
     }
 
     /// Puts each of the contents under its media type, in place of an earlier one of that media type. The iterator has
@@ -157,8 +156,7 @@ impl HeaderBuilder {
             × (held.entries ≡ put_each given (built_header self).content.entries)
             × (built_header b ≡ record (built_header self) { content = held })) }
     {
-        put_each(&mut self.header.content, contents)?;
-        Ok(self)
+        put_each(&mut self.header.content, contents).and(Ok(self))
     }
 
     /// Sets the specification extensions.

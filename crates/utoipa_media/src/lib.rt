@@ -7,6 +7,7 @@ mod copy;
 pub mod encoding;
 pub mod header;
 pub mod link;
+mod lists;
 mod print;
 mod read;
 mod rows;

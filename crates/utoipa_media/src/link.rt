@@ -8,7 +8,7 @@ use serde_json::Value;
 use std::alloc::{AllocError, Global};
 use std::collections::BTreeMap;
 use utoipa_base::{
-    Extensions, Place, ReadFault, Readings, Tree, clone_table, from_fields, print_table,
+    Extensions, Place, ReadFault, Readings, Tree, clone_table, from_fields, print_table, put,
     read_table, row_names, row_values, write_table,
 };
 use utoipa_leaf::server::Server;
@@ -162,8 +162,7 @@ impl LinkBuilder {
             × (parameters.entries ≡ insert_entry string_cmp (built_link self).parameters.entries name value)
             × (built_link b ≡ record (built_link self) { parameters = parameters })) }
     {
-        drop(self.link.parameters.insert(name, value)?);
-        Ok(self)
+        put(&mut self.link.parameters, name, value).and(Ok(self))
     }
 
     /// Sets the body that the operation is called with.

@@ -5,7 +5,12 @@ pub mod Shapes
 pub mod InOrder
 pub mod Determined
 pub mod Unique
+pub mod SortedTexts
+pub mod ReadInOrder
 pub mod Nesting
+pub mod PlainSlots
+pub mod PlainByShape
+pub mod PlainMerged
 pub mod MapViews
 pub mod Lookups
 pub mod PutEach

@@ -1,21 +1,46 @@
 -- A document is nested in one way at most, and what its paths are.
-use Rattle.std.proofs.Common.{◌≡◌, ℕ, List, [], ◌∷◌, false, ◌||◌, Option, None, option_and_then, sym, ap, ◌∙◌, subst}
+use Rattle.std.proofs.Common.{◌≡◌, ℕ, List, [], ◌∷◌, false, ◌||◌, Option, None, option_and_then, map, sym, ap, ◌∙◌, subst}
 use Rattle.std.specs.Option.{option_or}
 use Rattle.serde_json.specs.Data.{Members}
 use Rattle.utoipa_base.specs.Kinds.{open_api_object}
-use Rattle.utoipa_base.specs.Docs.{Doc, entries_doc, Entries, no_entries}
-use Rattle.utoipa_merging.specs.Slots.{ItemSlot, item_slot, path_slot, has_extensions, extension_at, extensions_in, paths_of}
-use Rattle.utoipa_merging.specs.Merged.{IsOpenApi, IsMerged, IsInKeyOrder}
+use Rattle.utoipa_base.specs.Docs.{Doc, Docs, entries_doc, table_doc, Entries, no_entries}
+use Rattle.utoipa_merging.specs.Slots.{ItemSlot, Joined, servers_joined, security_joined, tags_joined, joined_of, item_slot, path_slot, entry_at, has_extensions, extension_at, extensions_in, paths_of}
+use Rattle.utoipa_merging.specs.Merged.{IsOpenApi, IsListMerged, IsMerged, IsInKeyOrder}
 use Rattle.utoipa_merging.specs.Nested.{IsNested, with_paths, mounted_at}
 use Rattle.utoipa_merging.proofs.Options.{or_none, or_false}
 use Rattle.utoipa_merging.proofs.Shapes.{table_shape}
-use Rattle.utoipa_merging.proofs.InOrder.{same_entries}
 use Rattle.utoipa_merging.proofs.Unique.{merged_unique}
 
-pub nested_unique : (answers : List (List ℕ)) (self other c d : Doc) → IsNested answers self other c → IsNested answers self other d → IsInKeyOrder c → IsInKeyOrder d → c ≡ d
-nested_unique answers self other c d p q =
-    let same : p.items ≡ q.items = same_entries p.items q.items p.in_order q.in_order (λ path. p.mounted path ∙ sym (q.mounted path)) in
-    merged_unique _ c d (subst (λ es. IsMerged (with_paths es (extensions_in (paths_of self)) self ∷ with_paths no_entries None other ∷ []) c) same p.merged) q.merged
+-- the first of merged documents may have other items, among which the same is found
+merged_lists_as : (es fs : Entries) (e x : Option Members) (ds : Docs) (other d : Doc)
+    → IsMerged (with_paths es e (table_doc open_api_object ds x) ∷ other ∷ []) d → (j : Joined)
+    → IsListMerged (map (joined_of j) (with_paths fs e (table_doc open_api_object ds x) ∷ other ∷ [])) (joined_of j d)
+merged_lists_as es fs e x ds other d m servers_joined = m.lists servers_joined
+merged_lists_as es fs e x ds other d m security_joined = m.lists security_joined
+merged_lists_as es fs e x ds other d m tags_joined = m.lists tags_joined
+
+merged_as : (es fs : Entries) (e : Option Members) (self other d : Doc) → IsOpenApi self → ((path : List ℕ) → entry_at path (entries_doc es None) ≡ entry_at path (entries_doc fs None))
+    → IsMerged (with_paths es e self ∷ other ∷ []) d → IsMerged (with_paths fs e self ∷ other ∷ []) d
+merged_as es fs e self other d h same =
+    let t = table_shape open_api_object self h in
+    subst (λ s. IsMerged (with_paths es e s ∷ other ∷ []) d → IsMerged (with_paths fs e s ∷ other ∷ []) d) (sym t.is)
+    (λ m. record {
+      of_kind = m.of_kind;
+      fixed = m.fixed;
+      lists = merged_lists_as es fs e t.extensions t.fields other d m;
+      paths = record {
+        items = λ path s. m.paths.items path s ∙ ap (λ o. option_or (option_and_then (item_slot s) o) (option_or (path_slot path s (paths_of other)) None)) (same path);
+        extended = m.paths.extended;
+        extensions = m.paths.extensions;
+      };
+      components = m.components;
+    })
+
+pub nested_unique : (answers : List (List ℕ)) (self other c d : Doc) → IsOpenApi self → IsNested answers self other c → IsNested answers self other d → IsInKeyOrder c → IsInKeyOrder d → c ≡ d
+nested_unique answers self other c d h p q =
+    merged_unique _ c d
+    (merged_as p.items q.items (extensions_in (paths_of self)) self (with_paths no_entries None other) c h (λ path. p.mounted path ∙ sym (q.mounted path)) p.merged)
+    q.merged
 
 -- the paths of a document with other paths
 paths_with : (es : Entries) (e : Option Members) (d : Doc) → IsOpenApi d → paths_of (with_paths es e d) ≡ entries_doc es e

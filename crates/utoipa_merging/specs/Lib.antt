@@ -1,5 +1,6 @@
 pub mod Rules
 pub mod Slots
 pub mod Merged
+pub mod Sorted
 pub mod Nested
 pub mod Example

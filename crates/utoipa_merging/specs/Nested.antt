@@ -7,7 +7,7 @@ use Rattle.utoipa_base.specs.Kinds.{open_api_object}
 use Rattle.utoipa_base.specs.Docs.{Doc, Docs, doc, Entries, no_entries, entries_doc, table_doc}
 use Rattle.utoipa_merging.specs.Rules.{last_of}
 use Rattle.utoipa_merging.specs.Slots.{extensions_in, entries_in, entry_at, paths_of, first_doc, rest_docs}
-use Rattle.utoipa_merging.specs.Merged.{IsInOrder, IsMerged}
+use Rattle.utoipa_merging.specs.Merged.{IsMerged}
 
 -- the fields of an OpenAPI Object, with another at `paths`, its fourth row
 abbrev pub with_fourth : Doc → Docs → Docs
@@ -39,6 +39,5 @@ mounted_at answers other self path =
 pub record IsNested (answers : List (List ℕ)) (self other d : Doc) : Type 0 where
   pub items : Entries
   pub each_answered : length answers ≡ length (entries_in (paths_of other))
-  pub in_order : IsInOrder (entries_doc items None)
   pub mounted : (path : List ℕ) → entry_at path (entries_doc items None) ≡ mounted_at answers other self path
   pub merged : IsMerged (with_paths items (extensions_in (paths_of self)) self ∷ with_paths no_entries None other ∷ []) d

@@ -1,6 +1,11 @@
 //! What holds of all documents that are merged or nested, as contracts of functions that do nothing.
-ghost use Rattle.std.specs.Prelude.{◌≡◌, ◌∷◌, ◌++◌, ℕ, List, [], option_and_then};
+ghost use Rattle.std.specs.Prelude.{◌≡◌, ◌∷◌, ◌++◌, ℕ, List, [], All, Some, option_and_then};
+ghost use Rattle.serde_json.specs.Data.{Data};
+ghost use Rattle.serde_json.specs.Read.{read as read_text};
 ghost use Rattle.utoipa_base.specs.Docs.{Doc};
+ghost use Rattle.utoipa_base.specs.Kinds.{named, open_api_object};
+ghost use Rattle.utoipa_base.specs.Reading.{read};
+ghost use Rattle.utoipa_base.specs.WellFormed.{IsPlain};
 ghost use Rattle.utoipa_merging.specs.Example.{first_api, merged_api, second_api, third_api};
 ghost use Rattle.utoipa_merging.specs.Merged.{
   AddsNothing,
@@ -13,6 +18,7 @@ ghost use Rattle.utoipa_merging.specs.Merged.{
 };
 ghost use Rattle.utoipa_merging.specs.Nested.{IsNested, mounted_at};
 ghost use Rattle.utoipa_merging.specs.Slots.{ItemSlot, extension_at, has_extensions, item_slot, path_slot, paths_of};
+ghost use Rattle.utoipa_merging.specs.Sorted.{IsSorted};
 
 /// Merging what two lists of documents are merged to merges the documents of both. The lists may be of any length.
 pub fn merging_composes()
@@ -54,7 +60,7 @@ pub fn nothing_added()
 
 /// A document is nested into another in one way at most, up to the order of the keys.
 pub fn nested_in_one_way()
-    ensures { (answers : List (List ℕ)) (own nested c d : Doc) → IsNested answers own nested c → IsNested answers own nested d
+    ensures { (answers : List (List ℕ)) (own nested c d : Doc) → IsOpenApi own → IsNested answers own nested c → IsNested answers own nested d
         → IsInKeyOrder c → IsInKeyOrder d → c ≡ d }
 {}
 
@@ -66,6 +72,27 @@ pub fn nested_paths()
     ensures extensions { (answers : List (List ℕ)) (own nested d : Doc) → IsOpenApi own → IsOpenApi nested → IsNested answers own nested d
         → (has_extensions (paths_of d) ≡ has_extensions (paths_of own))
         × ((name : List ℕ) → extension_at name (paths_of d) ≡ extension_at name (paths_of own)) }
+{}
+
+/// What plain documents are merged into is plain, where its maps stand in the order of their keys.
+pub fn merged_stays_plain()
+    ensures { (documents : List Doc) (d : Doc) → IsMerged documents d → All IsPlain documents → IsInKeyOrder d → IsPlain d }
+{}
+
+/// What a plain document is with a plain one nested into it is plain, where its maps stand in the order of their keys.
+pub fn nested_stays_plain()
+    ensures { (answers : List (List ℕ)) (own nested d : Doc) → IsOpenApi own → IsOpenApi nested → IsNested answers own nested d
+        → IsPlain own → IsPlain nested → IsInKeyOrder d → IsPlain d }
+{}
+
+/// The tree of a text has the members of each object in the order of their names, each name once.
+pub fn texts_are_sorted()
+    ensures { (text : List ℕ) (tree : Data) → read_text text ≡ Some tree → IsSorted tree }
+{}
+
+/// A document that is read from such a tree has its maps in the order of their keys.
+pub fn what_is_read_is_in_key_order()
+    ensures { (tree : Data) (d : Doc) → IsSorted tree → read (named open_api_object) tree ≡ Some d → IsInKeyOrder d }
 {}
 
 /// Some documents are merged: of equal servers the second document's two stay and the third's goes, and of the examples of

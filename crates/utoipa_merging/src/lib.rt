@@ -5,4 +5,4 @@
 pub mod laws;
 pub mod maps;
 
-pub use maps::fill_missing;
+pub use maps::{fill_missing, keep_missing};

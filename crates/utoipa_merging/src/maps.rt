@@ -24,8 +24,8 @@ pub fn fill_missing<T: Drop>(
     put_all(map, alloc, missing)
 }
 
-// Keeps the entries whose names the other map lacks.
-fn keep_missing<T: Drop>(entries: &mut BTreeMap<String, T>, map: &BTreeMap<String, T>)
+/// Keeps the entries whose names the other map lacks. Takes no memory.
+pub fn keep_missing<T: Drop>(entries: &mut BTreeMap<String, T>, map: &BTreeMap<String, T>)
     ensures { (name : List ℕ) → get_by_text entries.new name ≡ where_missing (get_by_text map.now name) (get_by_text entries.old name) }
 {
     entries.retain(|name, _| !map.contains_key(name.as_str()));

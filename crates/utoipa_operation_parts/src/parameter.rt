@@ -14,7 +14,7 @@ use std::alloc::{AllocError, Global};
 use std::collections::BTreeMap;
 use utoipa_base::{
     Deprecated, Extensions, Place, ReadFault, Readings, RefOr, Required, Tree, clone_table,
-    from_fields, print_table, put_each, read_table, row_names, row_values, write_table,
+    from_fields, print_table, put, put_each, read_table, row_names, row_values, write_table,
 };
 use utoipa_leaf::path::{ParameterIn, ParameterStyle};
 use utoipa_media::content::Content;
@@ -247,8 +247,7 @@ impl ParameterBuilder {
             × (contents.entries ≡ insert_entry string_cmp (built_parameter self).content.entries media_type content)
             × (built_parameter b ≡ record (built_parameter self) { content = contents })) }
     {
-        drop(self.parameter.content.insert(media_type, content)?);
-        Ok(self)
+        put(&mut self.parameter.content, media_type, content).and(Ok(self))
     }
 
     /// Puts each of the contents under its media type, in place of an earlier one of that type. The iterator has to end.
@@ -264,8 +263,7 @@ impl ParameterBuilder {
             × (held.entries ≡ put_each given (built_parameter self).content.entries)
             × (built_parameter b ≡ record (built_parameter self) { content = held })) }
     {
-        put_each(&mut self.parameter.content, contents)?;
-        Ok(self)
+        put_each(&mut self.parameter.content, contents).and(Ok(self))
     }
 
     /// Sets how the value is serialized.

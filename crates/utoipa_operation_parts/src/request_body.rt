@@ -12,7 +12,7 @@ use std::alloc::{AllocError, Global};
 use std::collections::BTreeMap;
 use utoipa_base::{
     Extensions, Place, ReadFault, Readings, Ref, RefOr, Required, Tree, clone_table, from_fields,
-    print_table, read_table, row_names, row_values, write_table,
+    print_table, put, read_table, row_names, row_values, write_table,
 };
 use utoipa_media::content::Content;
 
@@ -256,8 +256,7 @@ impl RequestBodyExt for RequestBody {
     ) -> Result<RequestBody, AllocError> {
         let media_type = json_media_type(alloc)?;
         let content = json_schema_content(alloc, schema_name)?;
-        drop(self.content.insert(media_type, RefOr::T(content))?);
-        Ok(self)
+        put(&mut self.content, media_type, RefOr::T(content)).and(Ok(self))
     }
 }
 

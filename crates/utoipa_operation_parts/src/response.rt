@@ -20,7 +20,7 @@ use std::alloc::{AllocError, Global};
 use std::collections::BTreeMap;
 use utoipa_base::{
     Extensions, Place, ReadFault, Readings, Ref, RefOr, Tree, clone_extensions, clone_table,
-    from_fields, print_entries, print_table, put_each, read_entries, read_table, row_names,
+    from_fields, print_entries, print_table, put, put_each, read_entries, read_table, row_names,
     row_values, write_entries, write_table,
 };
 use utoipa_media::content::Content;
@@ -222,8 +222,7 @@ impl ResponseBuilder {
             × (headers.entries ≡ insert_entry string_cmp (built_response self).headers.entries name (header_place header))
             × (built_response b ≡ record (built_response self) { headers = headers })) }
     {
-        drop(self.response.headers.insert(name, RefOr::T(header))?);
-        Ok(self)
+        put(&mut self.response.headers, name, RefOr::T(header)).and(Ok(self))
     }
 
     /// Puts a reference to a header under the header's name, in place of an earlier one, or a header, of that name.
@@ -234,8 +233,7 @@ impl ResponseBuilder {
             × (headers.entries ≡ insert_entry string_cmp (built_response self).headers.entries name (header_reference reference))
             × (built_response b ≡ record (built_response self) { headers = headers })) }
     {
-        drop(self.response.headers.insert(name, RefOr::Ref(reference))?);
-        Ok(self)
+        put(&mut self.response.headers, name, RefOr::Ref(reference)).and(Ok(self))
     }
 
     /// Puts a link, or a reference to one, under its name, in place of an earlier one of that name.
@@ -246,8 +244,7 @@ impl ResponseBuilder {
             × (links.entries ≡ insert_entry string_cmp (built_response self).links.entries name link)
             × (built_response b ≡ record (built_response self) { links = links })) }
     {
-        drop(self.response.links.insert(name, link)?);
-        Ok(self)
+        put(&mut self.response.links, name, link).and(Ok(self))
     }
 
     /// Sets the specification extensions.
@@ -453,8 +450,7 @@ impl ResponsesBuilder {
             × (held.entries ≡ insert_entry string_cmp (built_responses self).responses.entries code response)
             × (built_responses b ≡ record (built_responses self) { responses = held })) }
     {
-        drop(self.responses.responses.insert(code, response)?);
-        Ok(self)
+        put(&mut self.responses.responses, code, response).and(Ok(self))
     }
 
     /// Puts each of the responses under its status code, in place of an earlier one of that code. The iterator has to end.
@@ -470,8 +466,7 @@ impl ResponsesBuilder {
             × (held.entries ≡ put_each given (built_responses self).responses.entries)
             × (built_responses b ≡ record (built_responses self) { responses = held })) }
     {
-        put_each(&mut self.responses.responses, responses)?;
-        Ok(self)
+        put_each(&mut self.responses.responses, responses).and(Ok(self))
     }
 
     /// Sets the specification extensions.

@@ -1,5 +1,5 @@
 -- A path item whose missing operations were filled in.
-use Rattle.std.proofs.Common.{◌≡◌, ℕ, List, [], ◌∷◌, refl, ap, codes, string_cmp, Result, Ok, Err, OnErr}
+use Rattle.std.proofs.Common.{◌≡◌, ℕ, List, [], ◌∷◌, refl, ap, codes, string_cmp}
 use Rattle.std.specs.Option.{option_or}
 use Rattle.std.specs.BTreeMap.{IsOrdered, get_by_text}
 use Rattle.utoipa_base.specs.Docs.{map_doc, entries_of_list}
@@ -45,8 +45,3 @@ same_additional i more is =
 pub additional_in_order : (i j : PathItemFields) (more : Operations) → (IsOrdered string_cmp i.additional_operations → IsOrdered string_cmp more)
     → IsInOrder (field_at (codes "additionalOperations") (path_item_layer operation_doc i)) → IsInOrder (field_at (codes "additionalOperations") (path_item_layer operation_doc (filled (record i { additional_operations = more }) j)))
 additional_in_order i j more keeps h = in_order-map operation_doc more (keeps (ordered-map operation_doc i.additional_operations h))
-
--- a refusal keeps what holds in any case
-pub on_err_if : {T E P : Type 0} (r : Result T E) → P → OnErr r P
-on_err_if (Ok v) p = tt
-on_err_if (Err e) p = p

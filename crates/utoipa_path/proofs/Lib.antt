@@ -1,3 +1,4 @@
+pub mod Built
 pub mod AddedItems
 pub mod FilledItem
 pub mod ByMethod

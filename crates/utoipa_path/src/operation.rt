@@ -15,7 +15,7 @@ use crate::lists::{add_one, add_places_or_clear};
 pub use crate::types::{Callback, Operation};
 use std::alloc::{AllocError, Global};
 use std::collections::BTreeMap;
-use utoipa_base::{Deprecated, Extensions, Ref, RefOr, list_if_any, put_each};
+use utoipa_base::{Deprecated, Extensions, Ref, RefOr, list_if_any, put, put_each, set};
 use utoipa_leaf::server::Server;
 use utoipa_operation_parts::{Parameter, RequestBody, Response, Responses};
 use utoipa_security::security::SecurityRequirement;
@@ -79,8 +79,8 @@ impl OperationBuilder {
         ensures { IfOk result (λ b. (listed : _) × IsFilledIfAny I.next_gives tags listed
             × (built_operation b ≡ record (built_operation self) { tags = listed })) }
     {
-        self.operation.tags = list_if_any(alloc, tags)?;
-        Ok(self)
+        let tags = list_if_any(alloc, tags);
+        set(&mut self.operation.tags, tags).and(Ok(self))
     }
 
     /// Adds the name of a tag.
@@ -90,8 +90,7 @@ impl OperationBuilder {
         ensures { IfOk result (λ b. (listed : _) × IsOneMore (built_operation self).tags tag listed
             × (built_operation b ≡ record (built_operation self) { tags = listed })) }
     {
-        add_one(&mut self.operation.tags, alloc, tag)?;
-        Ok(self)
+        add_one(&mut self.operation.tags, alloc, tag).and(Ok(self))
     }
 
     /// Sets what the operation does, in short.
@@ -131,8 +130,7 @@ impl OperationBuilder {
         ensures { IfOk result (λ b. (listed : _) × IsExtendedIfAny I.next_gives (built_operation self).parameters parameters listed
             × (built_operation b ≡ record (built_operation self) { parameters = listed })) }
     {
-        add_places_or_clear(&mut self.operation.parameters, alloc, parameters)?;
-        Ok(self)
+        add_places_or_clear(&mut self.operation.parameters, alloc, parameters).and(Ok(self))
     }
 
     /// Adds a parameter.
@@ -146,8 +144,7 @@ impl OperationBuilder {
         ensures { IfOk result (λ b. (listed : _) × IsOneMore (built_operation self).parameters (own_place parameter) listed
             × (built_operation b ≡ record (built_operation self) { parameters = listed })) }
     {
-        add_one(&mut self.operation.parameters, alloc, RefOr::T(parameter))?;
-        Ok(self)
+        add_one(&mut self.operation.parameters, alloc, RefOr::T(parameter)).and(Ok(self))
     }
 
     /// Adds a reference to a parameter.
@@ -161,8 +158,7 @@ impl OperationBuilder {
         ensures { IfOk result (λ b. (listed : _) × IsOneMore (built_operation self).parameters (reference_place reference) listed
             × (built_operation b ≡ record (built_operation self) { parameters = listed })) }
     {
-        add_one(&mut self.operation.parameters, alloc, RefOr::Ref(reference))?;
-        Ok(self)
+        add_one(&mut self.operation.parameters, alloc, RefOr::Ref(reference)).and(Ok(self))
     }
 
     /// Sets what is sent to the operation.
@@ -207,8 +203,7 @@ impl OperationBuilder {
             × (held.entries ≡ insert_entry string_cmp (built_operation self).responses.responses.entries code response)
             × (built_operation b ≡ record (built_operation self) { responses = record (built_operation self).responses { responses = held } })) }
     {
-        drop(self.operation.responses.responses.insert(code, response)?);
-        Ok(self)
+        put(&mut self.operation.responses.responses, code, response).and(Ok(self))
     }
 
     /// Puts a callback, or a reference to one, under its name, in place of an earlier one of that name.
@@ -223,8 +218,7 @@ impl OperationBuilder {
             × (held.entries ≡ insert_entry string_cmp (built_operation self).callbacks.entries name callback)
             × (built_operation b ≡ record (built_operation self) { callbacks = held })) }
     {
-        drop(self.operation.callbacks.insert(name, callback)?);
-        Ok(self)
+        put(&mut self.operation.callbacks, name, callback).and(Ok(self))
     }
 
     /// Puts each of the callbacks under its name, in place of an earlier one of that name. The iterator has to end.
@@ -240,8 +234,7 @@ impl OperationBuilder {
             × (held.entries ≡ put_each given (built_operation self).callbacks.entries)
             × (built_operation b ≡ record (built_operation self) { callbacks = held })) }
     {
-        put_each(&mut self.operation.callbacks, callbacks)?;
-        Ok(self)
+        put_each(&mut self.operation.callbacks, callbacks).and(Ok(self))
     }
 
     /// Sets whether the operation should no longer be used.
@@ -265,8 +258,8 @@ impl OperationBuilder {
         ensures { IfOk result (λ b. (listed : _) × IsFilledIfAny I.next_gives securities listed
             × (built_operation b ≡ record (built_operation self) { security = listed })) }
     {
-        self.operation.security = list_if_any(alloc, securities)?;
-        Ok(self)
+        let security = list_if_any(alloc, securities);
+        set(&mut self.operation.security, security).and(Ok(self))
     }
 
     /// Adds a security requirement.
@@ -280,8 +273,7 @@ impl OperationBuilder {
         ensures { IfOk result (λ b. (listed : _) × IsOneMore (built_operation self).security security listed
             × (built_operation b ≡ record (built_operation self) { security = listed })) }
     {
-        add_one(&mut self.operation.security, alloc, security)?;
-        Ok(self)
+        add_one(&mut self.operation.security, alloc, security).and(Ok(self))
     }
 
     /// Sets the servers of the operation. The iterator has to end.
@@ -297,8 +289,8 @@ impl OperationBuilder {
         ensures { IfOk result (λ b. (listed : _) × IsFilledIfAny I.next_gives servers listed
             × (built_operation b ≡ record (built_operation self) { servers = listed })) }
     {
-        self.operation.servers = list_if_any(alloc, servers)?;
-        Ok(self)
+        let servers = list_if_any(alloc, servers);
+        set(&mut self.operation.servers, servers).and(Ok(self))
     }
 
     /// Adds a server.
@@ -308,8 +300,7 @@ impl OperationBuilder {
         ensures { IfOk result (λ b. (listed : _) × IsOneMore (built_operation self).servers server listed
             × (built_operation b ≡ record (built_operation self) { servers = listed })) }
     {
-        add_one(&mut self.operation.servers, alloc, server)?;
-        Ok(self)
+        add_one(&mut self.operation.servers, alloc, server).and(Ok(self))
     }
 
     /// Sets the specification extensions.

@@ -24,7 +24,7 @@ pub use crate::types::PathItem;
 use std::alloc::{AllocError, Global};
 use std::collections::BTreeMap;
 use std::mem;
-use utoipa_base::{Extensions, Ref, list_if_any, put_each};
+use utoipa_base::{Extensions, Ref, list_if_any, put, put_each, set};
 use utoipa_leaf::path::HttpMethod;
 use utoipa_leaf::server::Server;
 use utoipa_merging::fill_missing;
@@ -53,11 +53,9 @@ impl PathItem {
             × IsEmptyPathItem empty × HoldAtMethods given (operation_doc operation) empty (out-PathItem item)) }
     {
         let mut item = empty_path_item(alloc);
-        for method in methods {
-            let copy = clone_operation(alloc, &operation)?;
-            set_operation(&mut item, method, copy);
-        }
-        Ok(item)
+        let copied = set_copies(&mut item, alloc, methods, &operation);
+        drop(operation);
+        copied.and(Ok(item))
     }
 
     /// A builder that begins with an item of which nothing is said, with no operation. Takes no memory.
@@ -79,11 +77,37 @@ impl PathItem {
     {
         let mut other = other;
         let additional = mem::replace(&mut other.additional_operations, BTreeMap::new(alloc));
-        fill_missing(&mut self.additional_operations, alloc, additional)?;
-        let own = mem::replace(self, empty_path_item(alloc));
-        drop(mem::replace(self, with_missing_of(own, other)));
-        Ok(())
+        match fill_missing(&mut self.additional_operations, alloc, additional) {
+            Ok(()) => {
+                let own = mem::replace(self, empty_path_item(alloc));
+                drop(mem::replace(self, with_missing_of(own, other)));
+                Ok(())
+            }
+            Err(refused) => {
+                drop(other);
+                Err(refused)
+            }
+        }
     }
+}
+
+// Sets a copy of the operation at each of the methods. Where memory runs out, some may be set.
+fn set_copies<I: Iterator<Item = HttpMethod> + Drop>(
+    item: &mut PathItem,
+    alloc: Global,
+    methods: I,
+    operation: &Operation,
+) -> Result<(), AllocError>
+    requires can { I.can_next methods }
+    requires ends { IsFinite (I.remaining methods) }
+    ensures { OnOk result ((given : List HttpMethod) × Drains I.next_gives methods given
+        × HoldAtMethods given (operation_doc operation.now) (out-PathItem item.old) (out-PathItem item.new)) }
+{
+    for method in methods {
+        let copy = clone_operation(alloc, operation)?;
+        set_operation(item, method, copy);
+    }
+    Ok(())
 }
 
 /// An item of which nothing is said, with no operation. Takes no memory.
@@ -163,8 +187,7 @@ impl PathItemBuilder {
             × (held.entries ≡ insert_entry string_cmp (built_path_item self).additional_operations.entries method operation)
             × (built_path_item b ≡ record (built_path_item self) { additional_operations = held })) }
     {
-        drop(self.item.additional_operations.insert(method, operation)?);
-        Ok(self)
+        put(&mut self.item.additional_operations, method, operation).and(Ok(self))
     }
 
     /// Puts each of the operations under the name of its method, in place of an earlier one of that name. The iterator has to end.
@@ -180,8 +203,7 @@ impl PathItemBuilder {
             × (held.entries ≡ put_each given (built_path_item self).additional_operations.entries)
             × (built_path_item b ≡ record (built_path_item self) { additional_operations = held })) }
     {
-        put_each(&mut self.item.additional_operations, operations)?;
-        Ok(self)
+        put_each(&mut self.item.additional_operations, operations).and(Ok(self))
     }
 
     /// Sets what the path is for, in short.
@@ -213,8 +235,8 @@ impl PathItemBuilder {
         ensures { IfOk result (λ b. (listed : _) × IsFilledIfAny I.next_gives servers listed
             × (built_path_item b ≡ record (built_path_item self) { servers = listed })) }
     {
-        self.item.servers = list_if_any(alloc, servers)?;
-        Ok(self)
+        let servers = list_if_any(alloc, servers);
+        set(&mut self.item.servers, servers).and(Ok(self))
     }
 
     /// Sets the parameters that all operations of the path have. The iterator has to end.
@@ -230,8 +252,8 @@ impl PathItemBuilder {
         ensures { IfOk result (λ b. (listed : _) × ArePlacesIfAny I.next_gives parameters listed
             × (built_path_item b ≡ record (built_path_item self) { parameters = listed })) }
     {
-        self.item.parameters = places_if_any(alloc, parameters)?;
-        Ok(self)
+        let parameters = places_if_any(alloc, parameters);
+        set(&mut self.item.parameters, parameters).and(Ok(self))
     }
 
     /// Sets references to the parameters that all operations of the path have. The iterator has to end.
@@ -247,8 +269,8 @@ impl PathItemBuilder {
         ensures { IfOk result (λ b. (listed : _) × AreReferencesIfAny I.next_gives references listed
             × (built_path_item b ≡ record (built_path_item self) { parameters = listed })) }
     {
-        self.item.parameters = references_if_any(alloc, references)?;
-        Ok(self)
+        let parameters = references_if_any(alloc, references);
+        set(&mut self.item.parameters, parameters).and(Ok(self))
     }
 
     /// Sets the specification extensions.

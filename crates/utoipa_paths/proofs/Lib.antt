@@ -1,3 +1,4 @@
+pub mod Refused
 pub mod ExtensionsInOrder
 pub mod ItemSteps
 pub mod OperationAdded

@@ -1,13 +1,14 @@
 //! A run over bytes in memory: what a caller learns from its contract alone, and what it says of what is refused.
 ghost use Rattle.std.specs.Prelude.{◌≡◌, ◌≤◌, ◌-◌, ◌⊎◌, Some, ℕ, List, vec_capacity, vec_len, ◌++◌};
-ghost use Rattle.utoipa_command.specs.Answers.{HasFraction, HasNoAnswer, HasNoTree, IsAnswer};
+ghost use Rattle.utoipa_command.specs.Answers.{HasFraction, HasNoDocument, HasNoTree, IsAnswer};
+ghost use Rattle.utoipa_command.specs.Commands.{server};
 ghost use Rattle.utoipa_command.specs.Messages.{refusal_line};
 
 use crate::shared::{is_flag, is_number, is_text};
 use std::alloc::Global;
 use std::process::Abort;
 use utoipa_base::ReadFault;
-use utoipa_command::{Command, Refusal, run};
+use utoipa_command::{Refusal, run};
 
 // A server with two variables.
 const TEMPLATED: &str =
@@ -22,12 +23,12 @@ fn serve_text(alloc: Global, text: &[u8], answer: &mut Vec<u8>, told: &mut Vec<u
     requires { 26 ≤ vec_capacity told.old - vec_len told.old }
 
     // Status 0 comes with the answer.
-    ensures answered { result ≡ 0 → (line : List ℕ) × IsAnswer Command.Server text.now line × (answer.new.items ≡ answer.old.items ++ line) }
+    ensures answered { result ≡ 0 → (line : List ℕ) × IsAnswer server text.now line × (answer.new.items ≡ answer.old.items ++ line) }
 
     // The line names the reason.
     ensures told_text { told.new.items ≡ told.old.items ++ refusal_line Refusal.Text → HasNoTree text.now }
     ensures told_fraction { told.new.items ≡ told.old.items ++ refusal_line Refusal.Fraction → HasFraction text.now }
-    ensures told_missing { told.new.items ≡ told.old.items ++ refusal_line Refusal.Missing → HasNoAnswer Command.Server text.now }
+    ensures told_missing { told.new.items ≡ told.old.items ++ refusal_line Refusal.Missing → HasNoDocument server text.now }
 
     // The reason names the line, where memory lasts.
     ensures no_tree { HasNoTree text.now → (result ≡ 1)

@@ -1,9 +1,17 @@
-use Rattle.std.proofs.Common.{sym, ◌∙◌}
-use Rattle.utoipa_command.proofs.Served.{refused, by_command}
+use Rattle.std.proofs.Common.{sym, ap, ◌∙◌, option_map}
+use Rattle.utoipa_command.specs.Commands.{request_of}
+use Rattle.utoipa_command.proofs.Served.{answered, refused, for_request}
 use Rattle.utoipa_command.proofs.command.perform.Goals as goal
+
+pub returns-in-Ok-clause-served : goal.returns-in-Ok-clause-served
+returns-in-Ok-clause-served g c =
+    let r = request_of c.in-Some.command in
+    let e = c.in-Ok.ensures in
+    for_request _ r _ _ _ (sym c.from_words.ensures ∙ ap (option_map request_of) c.in-Some.is) (answered r _ _ e.answered e.end)
 
 pub returns-in-Err-clause-served : goal.returns-in-Err-clause-served
 returns-in-Err-clause-served g c =
+    let r = request_of c.in-Some.command in
     let e = c.in-Err.ensures in
-    by_command _ c.in-Some.command c.in-Err.refusal _ _ (sym c.from_words.ensures ∙ c.in-Some.is)
-    (refused c.in-Some.command c.in-Err.refusal _ _ e.cause e.broken e.failed e.refused_at_end)
+    for_request _ r _ _ _ (sym c.from_words.ensures ∙ ap (option_map request_of) c.in-Some.is)
+    (refused r c.in-Err.refusal _ _ e.cause e.broken e.failed e.refused_at_end)

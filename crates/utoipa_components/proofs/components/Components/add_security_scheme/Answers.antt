@@ -1,5 +1,5 @@
 use Rattle.std.proofs.Common.{refl}
-use Rattle.utoipa_path.proofs.FilledItem.{on_err_if}
+use Rattle.utoipa_components.proofs.Refused.{on_err_if}
 use Rattle.utoipa_components.proofs.components.Components.add_security_scheme.Goals as goal
 
 pub returns-in_err-insert-clause-err : goal.returns-in_err-insert-clause-err

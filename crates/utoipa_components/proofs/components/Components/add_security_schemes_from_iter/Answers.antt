@@ -1,7 +1,7 @@
 use Rattle.std.proofs.Common.{◌∙◌, ap, refl}
 use Rattle.std.proofs.lemmas.Result.{on_ok_weaker, on_err_weaker}
 use Rattle.utoipa_base.specs.Fill.{put_each}
-use Rattle.utoipa_path.proofs.FilledItem.{on_err_if}
+use Rattle.utoipa_components.proofs.Refused.{on_err_if}
 use Rattle.utoipa_components.proofs.PutTwice.{put_twice}
 use Rattle.utoipa_components.proofs.components.Components.add_security_schemes_from_iter.Goals as goal
 

@@ -5,7 +5,7 @@ use Rattle.std.proofs.lemmas.Map.Text.{btree_map_updates_text}
 use Rattle.utoipa_path.specs.Docs.{operation_doc}
 use Rattle.utoipa_path.specs.Methods.{HoldAtMethods}
 use Rattle.utoipa_path.specs.declared.types.PathItem.{PathItem, out-PathItem}
-use Rattle.utoipa_path.proofs.FilledItem.{on_err_if}
+use Rattle.utoipa_paths.proofs.Refused.{on_err_if}
 use Rattle.utoipa_paths.specs.Items.{IsInOrderIfAny}
 use Rattle.utoipa_paths.specs.Paths.{AreFieldsOf}
 use Rattle.utoipa_paths.proofs.ItemSteps.{put_in_order}

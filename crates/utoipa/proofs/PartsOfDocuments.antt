@@ -1,0 +1,72 @@
+-- The parts of documents, taken one after the other and merged.
+use Rattle.std.proofs.Common.{◌≡◌, ◌<◌, List, [], ◌∷◌, ◌++◌, length, Option, false, map, All, refl, sym, ap, ◌∙◌, subst, arith, Global}
+use Rattle.std.specs.Prelude.{Vec}
+use Rattle.std.specs.List.{AllByRecursion}
+use Rattle.std.proofs.lemmas.List.{map-append}
+use Rattle.std.proofs.lemmas.List.Elements.{All-nil, All-cons}
+use Rattle.utoipa_base.specs.WellFormed.{has_fraction, IsPlain}
+use Rattle.utoipa_leaf.specs.Server.{server_doc}
+use Rattle.utoipa_leaf.specs.Tag.{tag_doc}
+use Rattle.utoipa_components.specs.Filled.{AreComponentsInOrder}
+use Rattle.utoipa_merging.specs.Merged.{IsListMerged, ArePathsInOrder, IsInKeyOrder}
+use Rattle.utoipa_components.specs.declared.components.Components.{Components}
+use Rattle.utoipa_paths.specs.Paths.{paths_doc}
+use Rattle.utoipa_paths.specs.declared.paths.Paths.{Paths}
+use Rattle.utoipa_security.specs.Requirement.{requirement_doc}
+use Rattle.utoipa_security.specs.declared.security.requirement.SecurityRequirement.{SecurityRequirement}
+use Rattle.utoipa.specs.Merging.{ArePartsOf, ArePartsPlain, lists_have_fraction}
+use Rattle.utoipa.specs.OpenApi.{openapi_doc}
+use Rattle.utoipa.specs.declared.bracketing.Parts.{Parts}
+use Rattle.utoipa.specs.declared.document.OpenApi.{OpenApi}
+use Rattle.utoipa.proofs.Bracketed.{any_fraction}
+use Rattle.utoipa.proofs.MergedDocuments.{list_doc_of, map-map, or_first, or_second, requirements_plain}
+
+-- one more part
+pub one_taken : {X : Type 0} (field : OpenApi → X) (documents : List OpenApi) (d : OpenApi) (old new : List X) → new ≡ old ++ field d ∷ [] → old ≡ map field documents → new ≡ map field (documents ++ d ∷ [])
+one_taken field documents d old new is before = is ∙ ap (λ l. l ++ field d ∷ []) before ∙ sym (map-append field documents (d ∷ []))
+
+pub all_requirements_plain : (ls : List (Option (Vec SecurityRequirement Global))) → All (λ l. IsPlain (list_doc_of requirement_doc l)) ls
+all_requirements_plain ls = λ k l below. requirements_plain _
+
+-- what was merged of a part, as a part of the documents
+pub of_documents : {X D : Type 0} (P : List D → Type 0) (f : X → D) (field : OpenApi → X) (documents : List OpenApi) (parts : List X) → parts ≡ map field documents → P (map f parts) → P (map (λ d. f (field d)) documents)
+of_documents P f field documents parts is h = subst P (ap (map f) is ∙ map-map f field documents) h
+
+pub some_part : {X : Type 0} (field : OpenApi → X) (d : OpenApi) (documents : List OpenApi) (parts : List X) → parts ≡ map field (d ∷ documents) → 0 < length parts
+some_part field d documents parts is = subst (λ l. 0 < length l) (sym is) (omega arith)
+
+paths_in : (ds : List OpenApi) → AllByRecursion (λ e. IsInKeyOrder (openapi_doc e)) ds → AllByRecursion (λ p. ArePathsInOrder (paths_doc p)) (map (λ d. d.paths) ds)
+paths_in [] h = tt
+paths_in (d ∷ ds) h = (h.0.paths, paths_in ds h.1)
+
+pub all_paths_in_order : (ds : List OpenApi) (parts : List Paths) → parts ≡ map (λ d. d.paths) ds → AllByRecursion (λ e. IsInKeyOrder (openapi_doc e)) ds → AllByRecursion (λ p. ArePathsInOrder (paths_doc p)) parts
+all_paths_in_order ds parts is h = subst (AllByRecursion (λ p. ArePathsInOrder (paths_doc p))) (sym is) (paths_in ds h)
+
+components_in : (ds : List OpenApi) → AllByRecursion (λ e. IsInKeyOrder (openapi_doc e)) ds → AllByRecursion AreComponentsInOrder (map (λ d. d.components) ds)
+components_in [] h = tt
+components_in (d ∷ ds) h = (h.0.components, components_in ds h.1)
+
+pub all_components_in_order : (ds : List OpenApi) (parts : List (Option Components)) → parts ≡ map (λ d. d.components) ds → AllByRecursion (λ e. IsInKeyOrder (openapi_doc e)) ds → AllByRecursion AreComponentsInOrder parts
+all_components_in_order ds parts is h = subst (AllByRecursion AreComponentsInOrder) (sym is) (components_in ds h)
+
+-- ---- parts without fractions
+
+servers_plain : (ds : List OpenApi) → any_fraction ds ≡ false → All (λ l. IsPlain (list_doc_of server_doc l)) (map (λ d. d.servers) ds)
+servers_plain [] h = All-nil _
+servers_plain (d ∷ ds) h =
+    All-cons (λ l. IsPlain (list_doc_of server_doc l)) d.servers (map (λ e. e.servers) ds)
+    (or_first (has_fraction (list_doc_of server_doc d.servers)) (has_fraction (list_doc_of tag_doc d.tags)) (or_first (lists_have_fraction (openapi_doc d)) (any_fraction ds) h))
+    (servers_plain ds (or_second (lists_have_fraction (openapi_doc d)) (any_fraction ds) h))
+
+tags_plain : (ds : List OpenApi) → any_fraction ds ≡ false → All (λ l. IsPlain (list_doc_of tag_doc l)) (map (λ d. d.tags) ds)
+tags_plain [] h = All-nil _
+tags_plain (d ∷ ds) h =
+    All-cons (λ l. IsPlain (list_doc_of tag_doc l)) d.tags (map (λ e. e.tags) ds)
+    (or_second (has_fraction (list_doc_of server_doc d.servers)) (has_fraction (list_doc_of tag_doc d.tags)) (or_first (lists_have_fraction (openapi_doc d)) (any_fraction ds) h))
+    (tags_plain ds (or_second (lists_have_fraction (openapi_doc d)) (any_fraction ds) h))
+
+pub parts_plain : (ds : List OpenApi) (p : Parts) → ArePartsOf ds p → any_fraction ds ≡ false → ArePartsPlain p
+parts_plain ds p of_ds h = record {
+  servers = subst (All (λ l. IsPlain (list_doc_of server_doc l))) (sym of_ds.servers) (servers_plain ds h);
+  tags = subst (All (λ l. IsPlain (list_doc_of tag_doc l))) (sym of_ds.tags) (tags_plain ds h);
+}

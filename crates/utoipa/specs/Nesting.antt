@@ -1,0 +1,34 @@
+-- Nesting documents: what a composer of paths may answer.
+use Rattle.std.specs.Prelude.{◌≡◌, ℕ, List, [], ◌∷◌, Contains, Result, Ok, Err, String, map, string_bytes}
+use Rattle.std.specs.Borrow.{Bor}
+use Rattle.std.specs.Fn.{Shared, FnReturnsAtPair}
+use Rattle.std.specs.Option.{option_or}
+use Rattle.std.specs.declared.alloc.AllocError.{AllocError}
+use Rattle.std.specs.declared.alloc.Global.{Global}
+use Rattle.utoipa_base.specs.Docs.{Doc}
+use Rattle.utoipa_merging.specs.Nested.{answered, item_if}
+use Rattle.utoipa_merging.specs.Rules.{last_of}
+use Rattle.utoipa_merging.specs.Slots.{entries_in, entry_at}
+
+-- what says of a composer which results it may give to the base and a path
+abbrev pub Composes : Type 0 → Type 1
+Composes F = Shared F (Bor (List ℕ) × (Bor (List ℕ) × Unit {0})) (Result (String Global) AllocError)
+
+-- the composer may answer so to the path
+abbrev pub MayAnswer : {F : Type 0} → Composes F → (composer : F) (base path answer : List ℕ) → Type 0
+MayAnswer g composer base path answer = (s : String Global) × FnReturnsAtPair g composer base path (Ok s) × (string_bytes s ≡ answer)
+
+-- the composer may answer so to the paths, in turn
+abbrev pub MayAnswerEach : {F : Type 0} → Composes F → (composer : F) (base : List ℕ) (paths answers : List (List ℕ)) → Type 0
+MayAnswerEach g composer base [] [] = Unit {0}
+MayAnswerEach g composer base (path ∷ paths) (answer ∷ answers) = MayAnswer g composer base path answer × MayAnswerEach g composer base paths answers
+MayAnswerEach g composer base paths answers = ⊥
+
+-- the composer may refuse one of the paths
+abbrev pub MayRefuseOne : {F : Type 0} → Composes F → (composer : F) (base : List ℕ) (paths : List (List ℕ)) → Type 0
+MayRefuseOne g composer base paths = (path : List ℕ) × (refused : AllocError) × Contains paths path × FnReturnsAtPair g composer base path (Err refused)
+
+-- each nested item stands under the answer to its path, of two with one answer the later, and at all other paths stands what stood there
+abbrev pub AreMounted : (answers : List (List ℕ)) (nested old new : Doc) → Type 0
+AreMounted answers nested old new =
+    (path : List ℕ) → entry_at path new ≡ option_or (last_of (map (item_if path) (answered answers (entries_in nested)))) (entry_at path old)

@@ -1,0 +1,194 @@
+//! Merging any number of documents: pair by pair as brackets say, or all at once.
+ghost use Rattle.std.specs.Prelude.{◌≡◌, ◌∷◌, ◌++◌, ◌↔◌, [], List, None, Some, true, false, map, Ok, IfOk, IsErrOf, IfSome, OnOk};
+ghost use Rattle.std.specs.List.{AllByRecursion, list_any};
+ghost use Rattle.std.specs.Vec.Iter.{into_iter_items};
+ghost use Rattle.utoipa_merging.specs.Merged.{IsInKeyOrder, IsMerged};
+ghost use Rattle.utoipa_merging.specs.Slots.{fixed_members, parts};
+ghost use Rattle.utoipa.specs.Merging.{lists_have_fraction, any_list_has_fraction, leaves_of, ArePartsOf, ArePartsPlain};
+ghost use Rattle.utoipa.specs.OpenApi.{openapi_doc};
+ghost use Rattle.utoipa.specs.declared.merging.MergeFault.TheVariants.{Memory, Fraction, Composer};
+
+use crate::document::OpenApi;
+use crate::merging::MergeFault;
+use std::alloc::{AllocError, Global};
+use std::vec::IntoIter;
+use utoipa_components::{Components, merge_components};
+use utoipa_leaf::server::Server;
+use utoipa_leaf::tag::Tag;
+use utoipa_merging_parts::join_lists;
+use utoipa_paths::{Paths, merge_paths};
+use utoipa_security::security::SecurityRequirement;
+
+/// Documents in brackets: which are merged first.
+#[derive(Debug, Drop)]
+pub enum Bracketing {
+    /// A document.
+    Leaf(OpenApi),
+    /// What the documents on the right are merged to, merged into what those on the left are merged to.
+    Join(Box<Bracketing>, Box<Bracketing>),
+}
+
+/// Merges documents pair by pair, the inner pairs first. In all brackets the same documents give the same one.
+///
+/// Fails with `Fraction` exactly where there are at least two documents and a server or a tag of one of them holds a fraction, before
+/// anything else and without memory, and with `Memory` where memory runs out. One document is answered as it is, without memory.
+pub fn merge_tree(alloc: Global, bracketing: Bracketing) -> Result<OpenApi, MergeFault>
+    ensures fraction { IsErrOf result Fraction ↔ (any_list_has_fraction (map openapi_doc (leaves_of bracketing)) ≡ true) }
+    ensures composer { IsErrOf result Composer → ⊥ }
+    ensures one { (d : OpenApi) → leaves_of bracketing ≡ d ∷ [] → result ≡ Ok d }
+    ensures ok { IfOk result (λ merged. IsMerged (map openapi_doc (leaves_of bracketing)) (openapi_doc merged)) }
+    ensures ordered { IfOk result (λ merged. AllByRecursion (λ d. IsInKeyOrder (openapi_doc d)) (leaves_of bracketing) → IsInKeyOrder (openapi_doc merged)) }
+{
+    match bracketing {
+        Bracketing::Leaf(document) => Ok(document),
+        joined => {
+            if leaf_has_fraction(&joined) {
+                return Err(MergeFault::Fraction);
+            }
+            Ok(merge_pairs(alloc, joined)?)
+        }
+    }
+}
+
+// Whether a server or a tag of one of the documents holds a fraction.
+fn leaf_has_fraction(bracketing: &Bracketing) -> bool
+    ensures { result ≡ list_any lists_have_fraction (map openapi_doc (leaves_of bracketing.now)) }
+{
+    match bracketing {
+        Bracketing::Leaf(document) => document.lists_have_fraction(),
+        Bracketing::Join(left, right) => leaf_has_fraction(left) || leaf_has_fraction(right),
+    }
+}
+
+fn merge_pairs(alloc: Global, bracketing: Bracketing) -> Result<OpenApi, AllocError>
+    requires plain { list_any lists_have_fraction (map openapi_doc (leaves_of bracketing)) ≡ false }
+    ensures ok { IfOk result (λ merged. IsMerged (map openapi_doc (leaves_of bracketing)) (openapi_doc merged)) }
+    ensures ordered { IfOk result (λ merged. AllByRecursion (λ d. IsInKeyOrder (openapi_doc d)) (leaves_of bracketing) → IsInKeyOrder (openapi_doc merged)) }
+{
+    match bracketing {
+        Bracketing::Leaf(document) => Ok(document),
+        Bracketing::Join(left, right) => {
+            let mut merged = merge_pairs(alloc, Box::into_inner(left))?;
+            merged.merge_plain(alloc, merge_pairs(alloc, Box::into_inner(right))?)?;
+            Ok(merged)
+        }
+    }
+}
+
+/// Merges all documents at once, from the first to the last: each list and each map of the result is filled once. Answers none where
+/// there is no document.
+///
+/// Fails with `Fraction` exactly where there are at least two documents and a server or a tag of one of them holds a fraction, before
+/// anything else and without memory, and with `Memory` where memory runs out. One document is answered as it is, without memory.
+pub fn merge_all(alloc: Global, documents: Vec<OpenApi>) -> Result<Option<OpenApi>, MergeFault>
+    ensures fraction { IsErrOf result Fraction ↔ (any_list_has_fraction (map openapi_doc documents.items) ≡ true) }
+    ensures composer { IsErrOf result Composer → ⊥ }
+    ensures none { documents.items ≡ [] → result ≡ Ok None }
+    ensures one { (d : OpenApi) → documents.items ≡ d ∷ [] → result ≡ Ok (Some d) }
+    ensures some { IfOk result (λ merged. merged ≡ None → documents.items ≡ []) }
+    ensures ok { IfOk result (λ merged. IfSome merged (λ d. IsMerged (map openapi_doc documents.items) (openapi_doc d))) }
+    ensures ordered { IfOk result (λ merged. IfSome merged (λ d. AllByRecursion (λ e. IsInKeyOrder (openapi_doc e)) documents.items → IsInKeyOrder (openapi_doc d))) }
+{
+    if documents.len() > 1 && any_has_fraction(&documents) {
+        return Err(MergeFault::Fraction);
+    }
+    let mut documents = documents.into_iter();
+    let Some(first) = documents.next() else {
+        return Ok(None);
+    };
+    if documents.len() == 0 {
+        return Ok(Some(first));
+    }
+    Ok(Some(merge_behind(alloc, first, documents)?))
+}
+
+// The first document, with the others merged into it at once.
+fn merge_behind(
+    alloc: Global,
+    first: OpenApi,
+    others: IntoIter<OpenApi>,
+) -> Result<OpenApi, AllocError>
+    requires plain { list_any lists_have_fraction (map openapi_doc (first ∷ into_iter_items others)) ≡ false }
+    ensures ok { IfOk result (λ merged. IsMerged (map openapi_doc (first ∷ into_iter_items others)) (openapi_doc merged)) }
+    ensures ordered { IfOk result (λ merged. AllByRecursion (λ d. IsInKeyOrder (openapi_doc d)) (first ∷ into_iter_items others) → IsInKeyOrder (openapi_doc merged)) }
+{
+    let mut parts = Parts::new(alloc);
+    let fixed = parts.take(alloc, first)?;
+    for document in others {
+        drop(parts.take(alloc, document)?);
+    }
+    parts.merged(alloc, fixed)
+}
+
+/// The parts of documents that are merged, of each document in turn.
+#[derive(Drop)]
+pub(crate) struct Parts {
+    servers: Vec<Option<Vec<Server>>>,
+    security: Vec<Option<Vec<SecurityRequirement>>>,
+    tags: Vec<Option<Vec<Tag>>>,
+    paths: Vec<Paths>,
+    components: Vec<Option<Components>>,
+}
+
+impl Parts {
+    fn new(alloc: Global) -> Parts
+        ensures { ArePartsOf [] result }
+    {
+        Parts {
+            servers: Vec::new(alloc),
+            security: Vec::new(alloc),
+            tags: Vec::new(alloc),
+            paths: Vec::new(alloc),
+            components: Vec::new(alloc),
+        }
+    }
+
+    /// Takes the parts of one more document, and answers what is left of it.
+    fn take(&mut self, alloc: Global, document: OpenApi) -> Result<OpenApi, AllocError>
+        ensures parts { OnOk result ((documents : List OpenApi) → ArePartsOf documents self.old → ArePartsOf (documents ++ document ∷ []) self.new) }
+        ensures fixed { IfOk result (λ fixed. parts fixed_members (openapi_doc fixed) ≡ parts fixed_members (openapi_doc document)) }
+    {
+        self.servers.push(document.servers)?;
+        self.security.push(document.security)?;
+        self.tags.push(document.tags)?;
+        self.paths.push(document.paths)?;
+        self.components.push(document.components)?;
+        Ok(OpenApi {
+            servers: None,
+            security: None,
+            tags: None,
+            paths: Paths::new(alloc),
+            components: None,
+            ..document
+        })
+    }
+
+    /// The document with these parts, merged, and all else of another.
+    fn merged(self, alloc: Global, fixed: OpenApi) -> Result<OpenApi, AllocError>
+        requires plain { ArePartsPlain self }
+        ensures ok { IfOk result (λ merged. (documents : List OpenApi) (d : OpenApi) → ArePartsOf (d ∷ documents) self
+            → parts fixed_members (openapi_doc fixed) ≡ parts fixed_members (openapi_doc d) → IsMerged (map openapi_doc (d ∷ documents)) (openapi_doc merged)) }
+        ensures ordered { IfOk result (λ merged. (documents : List OpenApi) → ArePartsOf documents self
+            → AllByRecursion (λ e. IsInKeyOrder (openapi_doc e)) documents → IsInKeyOrder (openapi_doc merged)) }
+    {
+        Ok(OpenApi {
+            servers: join_lists(alloc, self.servers)?,
+            security: join_lists(alloc, self.security)?,
+            tags: join_lists(alloc, self.tags)?,
+            paths: merge_paths(alloc, self.paths)?,
+            components: merge_components(alloc, self.components)?,
+            ..fixed
+        })
+    }
+}
+
+fn any_has_fraction(documents: &[OpenApi]) -> bool
+    ensures { result ≡ list_any lists_have_fraction (map openapi_doc documents.now) }
+{
+    for document in documents {
+        if document.lists_have_fraction() {
+            return true;
+        }
+    }
+    false
+}

@@ -1,0 +1,169 @@
+//! Components taken from other documents: in each map stands under a name the entry of the first document that has one.
+ghost use Rattle.std.specs.Prelude.{◌≡◌, ◌∷◌, ◌<◌, [], length, map, IfOk, OnErr, OnOk};
+ghost use Rattle.std.specs.List.{AllByRecursion};
+ghost use Rattle.utoipa_base.specs.Views.{option_of};
+ghost use Rattle.utoipa_components.specs.Components.{components_doc};
+ghost use Rattle.utoipa_components.specs.Filled.{maps_in, GoBack, AreComponentsInOrder};
+ghost use Rattle.utoipa_merging.specs.Merged.{AreComponentsMerged};
+
+use crate::components::Components;
+use std::alloc::{AllocError, Global};
+use std::collections::BTreeMap;
+use utoipa_base::{Extensions, RefOr};
+use utoipa_leaf::example::Example;
+use utoipa_media::content::Content;
+use utoipa_media::header::Header;
+use utoipa_media::link::Link;
+use utoipa_merging_parts::Filling;
+use utoipa_operation_parts::{Parameter, RequestBody, Response};
+use utoipa_path::{Callback, PathItem};
+use utoipa_schema::Schema;
+use utoipa_security::security::SecurityScheme;
+
+type Places<T> = BTreeMap<String, RefOr<T>>;
+
+// The maps of components side by side, in the order of their member table.
+type FirstMaps<R> = (
+    Places<Schema>,
+    (Places<Response>, (Places<Parameter>, (Places<Example>, R))),
+);
+
+type MiddleMaps<R> = (
+    Places<RequestBody>,
+    (Places<Header>, (Places<Link>, (Places<Callback>, R))),
+);
+
+type LastMaps = (
+    BTreeMap<String, PathItem>,
+    (Places<Content>, (Places<SecurityScheme>, ())),
+);
+
+type Maps = FirstMaps<MiddleMaps<LastMaps>>;
+
+/// What components took, so that it can be taken back.
+#[derive(Drop)]
+pub enum FilledComponents {
+    /// Nothing.
+    Nothing,
+    /// The components whole, for there were none.
+    Whole,
+    /// The entries of these names, for each map.
+    Entries(<Maps as Filling>::Filled),
+}
+
+/// Takes the entries of later components whose names are not there yet, map by map. Where there are no components, the later are taken
+/// without their extensions.
+///
+/// Fails where memory runs out, and then nothing has changed, and the later components are given up.
+pub fn fill_components(
+    own: &mut Option<Components>,
+    alloc: Global,
+    later: Option<Components>,
+) -> Result<FilledComponents, AllocError>
+    ensures merged { OnOk result (AreComponentsMerged (option_of components_doc own.old ∷ option_of components_doc later ∷ []) (option_of components_doc own.new)) }
+    ensures noted { IfOk result (λ filled. GoBack filled own.new own.old) }
+    ensures err { OnErr result (option_of components_doc own.new ≡ option_of components_doc own.old) }
+    ensures ordered { AreComponentsInOrder own.old → AreComponentsInOrder later → AreComponentsInOrder own.new }
+{
+    let Some(later) = later else {
+        return Ok(FilledComponents::Nothing);
+    };
+    let Some(standing) = own.take() else {
+        *own = Some(Components {
+            extensions: None,
+            ..later
+        });
+        return Ok(FilledComponents::Whole);
+    };
+    let (mut maps, extensions) = maps_of(standing);
+    let filled = maps.fill(alloc, maps_of(later).0);
+    *own = Some(components_of(maps, extensions));
+    Ok(FilledComponents::Entries(filled?))
+}
+
+/// Takes back what was taken. Takes no memory.
+pub fn take_back_components(own: &mut Option<Components>, filled: FilledComponents)
+    ensures { (before : _) → GoBack filled own.old before → option_of components_doc own.new ≡ option_of components_doc before }
+{
+    match filled {
+        FilledComponents::Nothing => {}
+        FilledComponents::Whole => *own = None,
+        FilledComponents::Entries(filled) => {
+            let Some(standing) = own.take() else {
+                return;
+            };
+            let (mut maps, extensions) = maps_of(standing);
+            maps.take_back(filled);
+            *own = Some(components_of(maps, extensions));
+        }
+    }
+}
+
+/// The components of all documents in one, where any has some: under each name the entry of the first that has one, and the extensions
+/// of the first document's. Of no documents there are none.
+///
+/// Fails where memory runs out.
+pub fn merge_components(
+    alloc: Global,
+    all: Vec<Option<Components>>,
+) -> Result<Option<Components>, AllocError>
+    ensures merged { IfOk result (λ merged. 0 < length all.items → AreComponentsMerged (map (option_of components_doc) all.items) (option_of components_doc merged)) }
+    ensures ordered { IfOk result (λ merged. AllByRecursion AreComponentsInOrder all.items → AreComponentsInOrder merged) }
+{
+    let mut all = all.into_iter();
+    let Some(mut merged) = all.next() else {
+        return Ok(None);
+    };
+    for later in all {
+        drop(fill_components(&mut merged, alloc, later)?);
+    }
+    Ok(merged)
+}
+
+// The maps, and the extensions.
+fn maps_of(components: Components) -> (Maps, Option<Extensions>)
+    ensures { result ≡ (maps_in components, components.extensions) }
+{
+    let Components {
+        schemas,
+        responses,
+        parameters,
+        examples,
+        request_bodies,
+        headers,
+        links,
+        callbacks,
+        path_items,
+        media_types,
+        security_schemes,
+        extensions,
+    } = components;
+    let last = (path_items, (media_types, (security_schemes, ())));
+    let middle = (request_bodies, (headers, (links, (callbacks, last))));
+    let maps = (schemas, (responses, (parameters, (examples, middle))));
+    (maps, extensions)
+}
+
+// The components of these maps and extensions.
+fn components_of(maps: Maps, extensions: Option<Extensions>) -> Components
+    ensures maps { maps_in result ≡ maps }
+    ensures extensions { result.extensions ≡ extensions }
+{
+    let (schemas, (responses, (parameters, (examples, middle)))) = maps;
+    let (request_bodies, (headers, (links, (callbacks, last)))) = middle;
+    let (path_items, (media_types, (security_schemes, ()))) = last;
+    Components {
+        schemas,
+        responses,
+        parameters,
+        examples,
+        request_bodies,
+        headers,
+        links,
+        callbacks,
+        path_items,
+        media_types,
+        security_schemes,
+        extensions,
+    }
+}

@@ -1,0 +1,6 @@
+use Rattle.utoipa_path.specs.declared.types.Operation.{out-roll-Operation}
+use Rattle.utoipa_path.proofs.Built.{built_where_set}
+use Rattle.utoipa_path.proofs.operation.OperationBuilder.tags.Goals as goal
+
+pub returns : goal.returns
+returns g c = built_where_set c.list_if_any-tags.result _ c.set.new.field c.set.result _ c.and.result _ c.list_if_any-tags.ensures c.set.ensures.ok c.and.ensures (λ h. (c.set.new.field, h, out-roll-Operation _))
