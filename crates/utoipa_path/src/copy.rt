@@ -2,12 +2,13 @@
 //!
 //! The functions of the cycle copy what holds operations or path items; each of these is put together, with the members that
 //! hold none, outside of it.
-ghost use Rattle.std.specs.Prelude.{◌≡◌, IfOk, OnOk, string_cmp};
+ghost use Rattle.std.specs.Prelude.{◌≡◌, IfOk, Ok, OnOk, string_cmp};
 ghost use Rattle.std.specs.BTreeMap.{insert_entry};
 ghost use Rattle.utoipa_base.specs.Kinds.{path_item_object, named};
 ghost use Rattle.utoipa_base.specs.Refs.{ref_or_doc};
 ghost use Rattle.utoipa_base.specs.Tables.{callback as callback_kind};
 ghost use Rattle.utoipa_base.specs.Views.{option_of, map_of_docs};
+ghost use Rattle.utoipa_base.specs.declared.refs.RefOr.TheVariants as places;
 ghost use Rattle.utoipa_path.specs.Docs.{operation_doc, path_item_doc, callback_doc, callbacks_doc, operations_of};
 ghost use Rattle.utoipa_path.specs.declared.types.Operation.{out-Operation};
 ghost use Rattle.utoipa_path.specs.declared.types.PathItem.{out-PathItem};
@@ -31,8 +32,7 @@ pub(crate) fn clone_operation(alloc: Global, operation: &Operation) -> Result<Op
 pub(crate) fn clone_path_item(alloc: Global, item: &PathItem) -> Result<PathItem, AllocError>
     ensures { IfOk result (λ copy. path_item_doc copy ≡ path_item_doc item.now) }
 {
-    let operations = clone_operations(alloc, item)?;
-    clone_path_item_with(alloc, item, operations)
+    clone_path_item_over(alloc, item, clone_operations(alloc, item))
 }
 
 /// Copies a reference, or a path item in its place. Fails where memory runs out.
@@ -46,7 +46,7 @@ fn clone_ref_or_path_item(
 {
     match place {
         RefOr::Ref(reference) => Ok(RefOr::Ref(reference.try_clone(alloc)?)),
-        RefOr::T(value) => Ok(RefOr::T(clone_path_item(alloc, value)?)),
+        RefOr::T(value) => in_place(clone_path_item(alloc, value)),
     }
 }
 
@@ -58,8 +58,7 @@ pub(crate) fn clone_callback(alloc: Global, callback: &Callback) -> Result<Callb
     let mut map = BTreeMap::new(alloc);
     for (key, member) in callback.iter() {
         let name = key.clone()?;
-        let value = clone_ref_or_path_item(alloc, member)?;
-        put(&mut map, name, value)?;
+        put_copy(&mut map, name, clone_ref_or_path_item(alloc, member))?;
     }
     Ok(map)
 }
@@ -160,6 +159,27 @@ fn put<T: Drop>(map: &mut BTreeMap<String, T>, name: String, value: T) -> Result
     Ok(())
 }
 
+/// Puts a copy into a map under its name. Fails where it was not made, and where memory runs out.
+// Not inlined, and given what the call answered: so a level of path items has room on the stack for that alone.
+#[inline(never)]
+fn put_copy<T: Drop>(
+    map: &mut BTreeMap<String, T>,
+    name: String,
+    copy: Result<T, AllocError>,
+) -> Result<(), AllocError>
+    ensures { OnOk result ((value : T) × (copy ≡ Ok value) × (map.new.entries ≡ insert_entry string_cmp map.old.entries name value)) }
+{
+    put(map, name, copy?)
+}
+
+/// A copy in the place of a reference. Fails where it was not made.
+#[inline(never)]
+fn in_place<T: Drop>(copy: Result<T, AllocError>) -> Result<RefOr<T>, AllocError>
+    ensures { IfOk result (λ place. (value : T) × (copy ≡ Ok value) × (place ≡ places.T value)) }
+{
+    Ok(RefOr::T(copy?))
+}
+
 /// Copies an operation, whose callbacks have been copied. Fails where memory runs out.
 #[inline(never)]
 fn clone_operation_with(
@@ -197,6 +217,20 @@ fn clone_operation_with(
         servers,
         extensions,
     })
+}
+
+/// Copies a path item, of which the copies of the operations may not have been made. Fails then, and where memory runs out.
+#[inline(never)]
+fn clone_path_item_over(
+    alloc: Global,
+    item: &PathItem,
+    operations: Result<PathItem, AllocError>,
+) -> Result<PathItem, AllocError>
+    ensures { IfOk result (λ copy. IfOk operations (λ held. operations_of operation_doc (out-PathItem held)
+        ≡ operations_of operation_doc (out-PathItem item.now))
+        → path_item_doc copy ≡ path_item_doc item.now) }
+{
+    clone_path_item_with(alloc, item, operations?)
 }
 
 /// Copies a path item, whose operations have been copied. Fails where memory runs out.

@@ -1,5 +1,5 @@
 -- The answers of the functions that copy operations, path items and callbacks.
-use Rattle.std.proofs.Common.{◌≡◌, ◌∙◌, ◌∷◌, ◌++◌, None, String, Global, refl, sym, ap, arith, rules}
+use Rattle.std.proofs.Common.{◌≡◌, ◌∙◌, ◌∷◌, ◌++◌, None, String, Global, Result, Ok, IfOk, refl, sym, subst, ap, arith, rules}
 use Rattle.std.proofs.lemmas.Result.{IfOk-weaker}
 use Rattle.utoipa_base.specs.Docs.{some_doc, own_doc, ref_doc}
 use Rattle.utoipa_base.specs.Kinds.{named, path_item_object}
@@ -16,6 +16,10 @@ use Rattle.utoipa_path.specs.declared.types.PathItem.{PathItem, PathItem-F, out-
 use Rattle.utoipa_path.proofs.Weights.{held_by_operation, lighter_operations, among_operations}
 use Rattle.utoipa_path.proofs.copy.+copy.Goals as goal
 
+-- what holds of an answer holds of the value that it is
+of_ok : {T E : Type 0} (P : T → Type 0) (r : Result T E) (v : T) → r ≡ Ok v → IfOk r P → P v
+of_ok P r v is h = subst (λ a. IfOk a P) is h
+
 pub clone_operation-clone_callback_map-requires : goal.clone_operation-clone_callback_map-requires
 clone_operation-clone_callback_map-requires t c = (omega (arith, held_by_operation c.args.operation.now), tt)
 
@@ -26,7 +30,7 @@ pub clone_path_item-clone_operations-requires : goal.clone_path_item-clone_opera
 clone_path_item-clone_operations-requires t c = (omega (arith, lighter_operations c.args.item.now), tt)
 
 pub clone_path_item-returns : goal.clone_path_item-returns
-clone_path_item-returns t c = IfOk-weaker c.clone_path_item_with.result _ _ (λ copy h. h c.in_ok-operations.ensures) c.clone_path_item_with.ensures
+clone_path_item-returns t c = IfOk-weaker c.clone_path_item_over.result _ _ (λ copy h. h c.clone_operations.ensures) c.clone_path_item_over.ensures
 
 pub clone_ref_or_path_item-clone_path_item-requires : goal.clone_ref_or_path_item-clone_path_item-requires
 clone_ref_or_path_item-clone_path_item-requires t c =
@@ -36,8 +40,10 @@ clone_ref_or_path_item-clone_path_item-requires t c =
 pub clone_ref_or_path_item-returns-in_ok-try_clone-in-Ref : goal.clone_ref_or_path_item-returns-in_ok-try_clone-in-Ref
 clone_ref_or_path_item-returns-in_ok-try_clone-in-Ref t c = ap (ref_doc (named path_item_object)) c.in_ok-try_clone-in-Ref.ensures ∙ sym (ap (ref_or_doc (named path_item_object) path_item_doc) c.in-Ref.is)
 
-pub clone_ref_or_path_item-returns-in_ok-clone_path_item-in-T : goal.clone_ref_or_path_item-returns-in_ok-clone_path_item-in-T
-clone_ref_or_path_item-returns-in_ok-clone_path_item-in-T t c = ap own_doc c.in_ok-clone_path_item-in-T.ensures ∙ sym (ap (ref_or_doc (named path_item_object) path_item_doc) c.in-T.is)
+pub clone_ref_or_path_item-returns-in-T : goal.clone_ref_or_path_item-returns-in-T
+clone_ref_or_path_item-returns-in-T t c = IfOk-weaker c.in_place.result _ _
+    (λ place h. ap (ref_or_doc (named path_item_object) path_item_doc) h.2 ∙ ap own_doc (of_ok _ _ _ h.1 c.clone_path_item.ensures) ∙ sym (ap (ref_or_doc (named path_item_object) path_item_doc) c.in-T.is))
+    c.in_place.ensures
 
 pub clone_callback-clone_ref_or_path_item-requires : goal.clone_callback-clone_ref_or_path_item-requires
 clone_callback-clone_ref_or_path_item-requires t c =
@@ -49,7 +55,10 @@ pub clone_callback-loop-key-init : goal.clone_callback-loop-key-init
 clone_callback-loop-key-init t c = copied_begun (ref_or_doc (named path_item_object) path_item_doc) _ _ _ (c.into_iter-key-iterator.ensures.into_iter_gives ∙ c.iter-key-items.ensures.rest) (search rules)
 
 pub clone_callback-loop-key-preserved : goal.clone_callback-loop-key-preserved
-clone_callback-loop-key-preserved t c = copied_step (ref_or_doc (named path_item_object) path_item_doc) _ _ _ _ _ _ _ _ c.loop-key.invariant c.in-Some.ensures.steps c.iter-key-items.ensures.ordered c.in_ok-name.ensures.cases c.in_ok-value.ensures c.in_ok-put.ensures
+clone_callback-loop-key-preserved t c =
+    let put = c.in_ok-put_copy.ensures in
+    copied_step (ref_or_doc (named path_item_object) path_item_doc) _ _ _ _ _ _ _ _ c.loop-key.invariant c.in-Some.ensures.steps c.iter-key-items.ensures.ordered c.in_ok-name.ensures.cases
+    (of_ok _ _ _ put.1 c.clone_ref_or_path_item.ensures) put.2
 
 pub clone_callback-returns : goal.clone_callback-returns
 clone_callback-returns t c = copied_map (ref_or_doc (named path_item_object) path_item_doc) c.args.callback.now c.loop-key.map _ c.loop-key.invariant c.in-None.ensures.steps.0
