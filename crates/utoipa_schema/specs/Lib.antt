@@ -5,3 +5,4 @@ pub mod Folds
 pub mod Layers
 pub mod OfKind
 pub mod Parts
+pub mod Places

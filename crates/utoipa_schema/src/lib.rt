@@ -9,6 +9,7 @@ pub mod conversions;
 mod copy;
 pub mod object;
 pub mod one_of;
+mod places;
 mod print;
 mod read;
 pub mod trees;
