@@ -1,7 +1,7 @@
 -- What places were read as, by the member that they stand in.
 use Rattle.std.specs.Prelude.{◌≡◌, ℕ, ◌+◌, ◌≤◌, List, [], ◌∷◌, true, false, map, Option, None, Some, option_map, codes, Result, IfOk, IfErr}
 use Rattle.serde_json.specs.Data.{Data}
-use Rattle.utoipa_base.specs.Docs.{Doc, list_doc, Docs, no_docs}
+use Rattle.utoipa_base.specs.Docs.{Doc, list_doc, own_doc, Docs, no_docs}
 use Rattle.utoipa_base.specs.Faults.{Refuses}
 use Rattle.utoipa_base.specs.Kinds.{schema}
 use Rattle.utoipa_base.specs.Reading.{both}
@@ -38,6 +38,15 @@ abbrev pub last : List (Option Doc) → Option Doc
 last [] = None
 last (o ∷ []) = o
 last (o ∷ p ∷ os) = last (p ∷ os)
+
+-- the document that is a place's own, which is none where a reference stands
+abbrev pub own_doc_of : Doc → Option Doc
+own_doc_of (own_doc d) = Some d
+own_doc_of d = None
+
+abbrev pub own_part : Option Doc → Option Doc
+own_part None = None
+own_part (Some d) = own_doc_of d
 
 -- all outcomes, if each is a document
 abbrev pub all_docs : List (Option Doc) → Option Docs

@@ -1,8 +1,6 @@
 //! The members of a schema that hold schemas, whose places have been read before.
-ghost use Rattle.std.specs.Prelude.{◌≡◌, None, Some, IfOk, IfErr, List, Option, option_map, map, codes, true, false};
-ghost use Rattle.serde_json.specs.Find.{get};
+ghost use Rattle.std.specs.Prelude.{◌≡◌, option_map, map, codes, true, false};
 ghost use Rattle.serde_json.specs.View.{view};
-ghost use Rattle.utoipa_base.specs.Docs.{Doc, own_doc};
 ghost use Rattle.utoipa_base.specs.Fields.{field};
 ghost use Rattle.utoipa_base.specs.Kinds.{schema, array_items, additional_properties as additional_kind, ref_or, list_of, map_of, required, optional, defaulted};
 ghost use Rattle.utoipa_base.specs.Reading.{read};
@@ -11,7 +9,7 @@ ghost use Rattle.utoipa_base.specs.Tables.{row};
 ghost use Rattle.utoipa_base.specs.Views.{boxed, option_of, list_of_docs, map_of_docs};
 ghost use Rattle.utoipa_schema.specs.Choice.{content_schema_doc};
 ghost use Rattle.utoipa_schema.specs.Docs.{places_doc, additional_properties_doc, schema_doc, array_items_doc};
-ghost use Rattle.utoipa_schema.specs.Outcomes.{documents, counts, last, all_of_list, Fits};
+ghost use Rattle.utoipa_schema.specs.Outcomes.{documents, outcome_doc, own_part, counts, last, all_of_list, Fits};
 ghost use Rattle.utoipa_schema.specs.Places.{read_place, at_each, elements, entries, alone, in_list, in_map, in_one, of_content};
 
 use crate::outcomes::Outcomes;
@@ -35,16 +33,25 @@ fn all_places(alloc: Global, outcomes: Outcomes) -> Result<Vec<RefOr<Schema>>, R
     Ok(list)
 }
 
-/// All schemas, where each place fits one and holds no reference. Fails with `Alternative` where one does not.
+/// The schema that a place holds, where it is no reference and fits one.
+fn own_schema(outcome: Option<RefOr<Schema>>) -> Option<Schema>
+    ensures { option_map schema_doc result ≡ own_part (outcome_doc outcome) }
+{
+    match outcome {
+        Some(RefOr::T(schema)) => Some(schema),
+        Some(RefOr::Ref(_)) | None => None,
+    }
+}
+
+/// All schemas, where each place holds one. Fails with `Alternative` where one does not.
 fn all_schemas(alloc: Global, outcomes: Outcomes) -> Result<Vec<Schema>, ReadFault>
-    ensures { (read : List (Option Doc)) → documents outcomes.items ≡ map (option_map own_doc) read
-        → Fits (all_of_list read) (list_of_docs schema_doc) result (counts (documents outcomes.items)) }
+    ensures { Fits (all_of_list (map own_part (documents outcomes.items))) (list_of_docs schema_doc) result (counts (documents outcomes.items)) }
 {
     let mut list = Vec::new(alloc);
     for outcome in outcomes {
-        match outcome {
-            Some(RefOr::T(schema)) => list.push(schema)?,
-            _ => return Err(ReadFault::Alternative),
+        match own_schema(outcome) {
+            Some(schema) => list.push(schema)?,
+            None => return Err(ReadFault::Alternative),
         }
     }
     Ok(list)
@@ -54,21 +61,25 @@ fn all_schemas(alloc: Global, outcomes: Outcomes) -> Result<Vec<Schema>, ReadFau
 pub(crate) fn only_place(mut outcomes: Outcomes) -> Result<RefOr<Schema>, ReadFault>
     ensures { Fits (last (documents outcomes.items)) (ref_or_doc schema schema_doc) result (counts (documents outcomes.items)) }
 {
-    match outcomes.pop() {
-        Some(Some(place)) => Ok(place),
-        _ => Err(ReadFault::Alternative),
+    let Some(outcome) = outcomes.pop() else {
+        return Err(ReadFault::Alternative);
+    };
+    match outcome {
+        Some(place) => Ok(place),
+        None => Err(ReadFault::Alternative),
     }
 }
 
-/// The one schema that there is. Fails with `Alternative` where its place fits none or holds a reference, and where there is
-/// no place.
+/// The schema in the one place that there is. Fails with `Alternative` where it holds none, and where there is no place.
 pub(crate) fn only_schema(mut outcomes: Outcomes) -> Result<Schema, ReadFault>
-    ensures { (read : Option Doc) → last (documents outcomes.items) ≡ option_map own_doc read
-        → Fits read schema_doc result (counts (documents outcomes.items)) }
+    ensures { Fits (own_part (last (documents outcomes.items))) schema_doc result (counts (documents outcomes.items)) }
 {
-    match outcomes.pop() {
-        Some(Some(RefOr::T(schema))) => Ok(schema),
-        _ => Err(ReadFault::Alternative),
+    let Some(outcome) = outcomes.pop() else {
+        return Err(ReadFault::Alternative);
+    };
+    match own_schema(outcome) {
+        Some(schema) => Ok(schema),
+        None => Err(ReadFault::Alternative),
     }
 }
 
@@ -117,7 +128,10 @@ pub(crate) fn places_by_name(
     let mut outcomes = outcomes.into_iter();
     let mut map = BTreeMap::new(alloc);
     for (key, _member) in members.iter() {
-        let Some(Some(place)) = outcomes.next() else {
+        let Some(outcome) = outcomes.next() else {
+            return Err(ReadFault::Alternative);
+        };
+        let Some(place) = outcome else {
             return Err(ReadFault::Alternative);
         };
         let name = key.clone()?;
