@@ -62,6 +62,10 @@ pub passes_fits : {A T : Type 0} (f : A → Doc) (g : T → Doc) (r : Result T R
 passes_fits f g (Ok v) e o p m n is one none = absurd is
 passes_fits {T = T} f g (Err x) e o p m n is one none = record { ok = tt; err = passes_on {T = T} (Err x) e o p is one.err none; counted = tt }
 
+pub passes_refused : {T : Type 0} (g : T → Doc) (r : Result T ReadFault) (e : ReadFault) (p : Option Doc) (n : ℕ) → IsErrAnd r (λ x. x ≡ e) → Refuses p e → Fits p g r n
+passes_refused g (Ok v) e p n is refusal = absurd is
+passes_refused {T = T} g (Err x) e p n is refusal = record { ok = tt; err = passes_on {T = T} (Err x) e p p is refusal (λ h. h); counted = tt }
+
 -- the same result of another document
 pub fits_as_well : {A : Type 0} (f : A → Doc) (r : Result A ReadFault) (o p : Option Doc) (m n : ℕ) → Fits o f r m → o ≡ p → m ≤ n → Fits p f r n
 fits_as_well f (Ok v) o p m n one same within = record { ok = sym same ∙ one.ok; err = tt; counted = omega (arith, one.counted, within) }
@@ -136,6 +140,23 @@ null_fits f name k d o v n found is none = record { ok = field_null name k d (vi
 pub absent_fits : {A : Type 0} (f : A → Doc) (name : List ℕ) (k : Kind) (d : Data) (n : ℕ) → get name d ≡ None → Fits {A = Option A} (field (row name optional k) d) (option_of f) (Ok None) n
 absent_fits f name k d n gone = record { ok = field_absent name optional k d gone; err = tt; counted = omega (arith, schema_count-none) }
 
+-- ---- with the counter
+
+-- the roots of a walk were read, and what they came to was put together
+pub reads_from : {A : Type 0} (f : A → Doc) (r : Result A ReadFault) (o : Option Doc) (n old new m most : ℕ) → Fits o f r n → old ≤ new → new ≤ old + m → m ≤ most → (new < 18446744073709551615 → old + n ≤ new) → Reads o f r old new most
+reads_from f (Ok v) o n old new m most one grows at_most within at_least =
+    record { ok = one.ok; err = tt; grows = grows; at_most = omega (arith, at_most, within); at_least = λ below. omega (arith, one.counted, at_least below) }
+reads_from f (Err x) o n old new m most one grows at_most within at_least =
+    record { ok = tt; err = one.err; grows = grows; at_most = omega (arith, at_most, within); at_least = tt }
+
+-- ---- tables
+
+-- a table with one member that holds schemas
+pub table_fits_as : {A B : Type 0} (f : A → Doc) (g : B → Doc) (v : A) (r : Result B ReadFault) (o p : Option Doc) (n : ℕ) → Fits {A = A} o f (Ok v) n → IfOk r (λ b. o ≡ Some (f v) → p ≡ Some (g b)) → IfErr r (Refuses p)
+    → IfOk r (λ b. schema_count (g b) ≡ schema_count (f v)) → Fits p g r n
+table_fits_as f g v (Ok b) o p n one fits refusal counts = record { ok = fits one.ok; err = tt; counted = omega (arith, one.counted, counts) }
+table_fits_as f g v (Err x) o p n one fits refusal counts = record { ok = tt; err = refusal; counted = tt }
+
 -- ---- one place
 
 pub last-snoc : (os : List (Option Doc)) (o : Option Doc) → last (os ++ o ∷ []) ≡ o
@@ -162,7 +183,7 @@ alone_read (string s) = refl
 alone_read (array ds) = refl
 alone_read (object ms) = refl
 
-own_back : (o : Option Doc) → own_part (option_map own_doc o) ≡ o
+pub own_back : (o : Option Doc) → own_part (option_map own_doc o) ≡ o
 own_back None = refl
 own_back (Some d) = refl
 

@@ -123,7 +123,7 @@ entries_fewer b (string s) = omega arith
 entries_fewer b (array ds) = omega arith
 entries_fewer b (object ms) = omega (arith, total-members b ms)
 
-alone_fewer : (b : Bool) (d : Data) → total (at_each b (alone d)) ≤ values d
+pub alone_fewer : (b : Bool) (d : Data) → total (at_each b (alone d)) ≤ values d
 unfolding total values
 alone_fewer b null = omega arith
 alone_fewer b (boolean c) = omega arith
