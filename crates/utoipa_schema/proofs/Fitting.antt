@@ -1,5 +1,5 @@
 -- What readers come to that are given the outcomes of the places inside.
-use Rattle.std.proofs.Common.{◌≡◌, ◌∙◌, ◌≤◌, ◌+◌, ℕ, List, [], ◌∷◌, ◌++◌, length, map, true, false, Bool, Option, Some, None, option_map, String, Global, BTreeMap, Vec, Bor, refl, sym, ap, subst, arith, append_assoc, Result, Ok, Err, IfOk, IfErr, string_bytes, string_cmp}
+use Rattle.std.proofs.Common.{◌≡◌, ◌∙◌, ◌≤◌, ◌<◌, ◌+◌, ℕ, List, [], ◌∷◌, ◌++◌, length, map, true, false, Bool, Option, Some, None, option_map, String, Global, BTreeMap, Vec, Bor, refl, sym, ap, subst, arith, append_assoc, Result, Ok, Err, IfOk, IfErr, string_bytes, string_cmp}
 use Rattle.std.proofs.lemmas.List.{map-append}
 use Rattle.std.specs.BTreeMap.{insert_entry}
 use Rattle.std.specs.List.Sorted.{IsStrictlySortedBy}

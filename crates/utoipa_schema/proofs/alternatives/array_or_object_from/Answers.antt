@@ -48,8 +48,8 @@ returns-in-Some-2-clause-counted c =
     let counted = value_is _ _ c.in-Some-2.object c.object_from.ensures.counted is in
     omega (arith, single_object c.in-Some-2.object c.args.content_schema _ without counted, ap (λ x. schema_count (schema_doc (schemas.Object x))) taken)
 
-pub returns-clause-read : goal.returns-clause-read
-returns-clause-read c =
+pub returns-in-None-clause-read : goal.returns-in-None-clause-read
+returns-in-None-clause-read c =
     let gone = refused_if_unfit (read (named array_schema) (view c.args.tree.now)) c.array_from.result c.array_from.ensures.err (c.in_ok-array.ensures ∙ ap Ok c.in_default.is) in
     let none = refused_if_unfit (read (named object_schema) (view c.args.tree.now)) c.object_from.result c.object_from.ensures.err (c.in_ok-object.ensures ∙ ap Ok c.in-None.is) in
     no_schema (view c.args.tree.now) c.requires.no_combination gone none

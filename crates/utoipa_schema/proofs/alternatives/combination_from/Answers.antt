@@ -58,8 +58,8 @@ returns-in-Some-3-clause-counted c =
     let this = fits_value any_of_doc (read (named any_of_schema) (view c.args.tree.now)) c.any_of_from.result v _ c.any_of_from.ensures (c.in_ok-any_of.ensures ∙ ap Ok c.in-Some-3.is) in
     omega (arith, this.1, ap schema_count (schema-AnyOf v), counts_one (any_of_doc v))
 
-pub returns-clause-read : goal.returns-clause-read
-returns-clause-read c =
+pub returns-in-None-clause-read : goal.returns-in-None-clause-read
+returns-in-None-clause-read c =
     let one = fits_none one_of_doc (read (named one_of_schema) (view c.args.tree.now)) c.one_of_from.result _ c.one_of_from.ensures (c.in_ok-one_of.ensures ∙ ap Ok c.in_default.is) in
     let all = fits_none all_of_doc (read (named all_of_schema) (view c.args.tree.now)) c.all_of_from.result _ c.all_of_from.ensures (c.in_ok-all_of.ensures ∙ ap Ok c.in_default-2.is) in
     let any = fits_none any_of_doc (read (named any_of_schema) (view c.args.tree.now)) c.any_of_from.result _ c.any_of_from.ensures (c.in_ok-any_of.ensures ∙ ap Ok c.in-None.is) in

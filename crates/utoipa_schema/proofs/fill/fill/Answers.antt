@@ -42,7 +42,9 @@ pub returns-clause-grows : goal.returns-clause-grows
 returns-clause-grows c = c.fill.invariant.grows
 
 pub returns-clause-at_most : goal.returns-clause-at_most
-returns-clause-at_most c = omega (arith, c.fill.invariant.at_most, length-map c.args.table.items (λ p. (p.may_be_reference, view p.tree.now)))
+returns-clause-at_most c =
+    let many : length (places c.args.table.items) ≡ length c.args.table.items = length-map c.args.table.items _ in
+    omega (arith, c.fill.invariant.at_most, many)
 
 pub returns-clause-at_least : goal.returns-clause-at_least
 returns-clause-at_least c = c.fill.invariant.at_least
