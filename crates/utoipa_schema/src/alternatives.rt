@@ -1,6 +1,6 @@
 //! The alternatives of a schema, whose inner places have been read before.
 //!
-//! An alternative that fits takes the outcomes of its members into the schema. One that does not drops them, and no other
+//! An alternative that fits takes the outcomes in its members into the schema, and one that does not fit drops them. No other
 //! alternative has any of these members but `contentSchema`, which is taken only where an array or an object fits.
 ghost use Rattle.std.specs.Prelude.{◌≡◌, ◌≤◌, ◌+◌, None, Some, Ok, IfOk, IfErr, MatchOption, option_map, map, true, codes};
 ghost use Rattle.serde_json.specs.View.{view};
@@ -224,9 +224,7 @@ pub(crate) fn schema_from(
         return Ok(Some(combination));
     }
     match if_fitting(content_schema_from(alloc, tree, content_schema))? {
-        Some(content_schema) => {
-            array_or_object_from(alloc, tree, array, object, content_schema)
-        }
+        Some(content_schema) => { array_or_object_from(alloc, tree, array, object, content_schema) }
         None => Ok(None),
     }
 }

@@ -1,7 +1,7 @@
 //! The table of places, filled from the last row to the first.
 //!
-//! The walk puts each place into the table after the one that it stands in. So the last row's inner places have been read, and
-//! theirs are the last outcomes: they are taken off, and the row's own outcome takes their place. No function calls itself.
+//! The walk puts each place into the table after the one that it stands in. So where a row is the last that is left, its inner
+//! places have been read, and their outcomes are the last: they are taken off, and the row's own outcome takes their place.
 ghost use Rattle.std.specs.Prelude.{◌≡◌, ◌≤◌, ◌<◌, ◌+◌, IfOk, List, [], map, option_map, length, if◌then◌else◌, nat_lt};
 ghost use Rattle.serde_json.specs.View.{view};
 ghost use Rattle.utoipa_base.specs.Docs.{own_doc};

@@ -120,10 +120,7 @@ fn take_last(filled: &mut Outcomes, count: usize) -> Result<Outcomes, AllocError
 }
 
 /// Takes the outcomes in the combinations of a tree off the end. Fails where memory runs out.
-fn take_combinations(
-    tree: &Value,
-    filled: &mut Outcomes,
-) -> Result<CombinationOutcomes, AllocError>
+fn take_combinations(tree: &Value, filled: &mut Outcomes) -> Result<CombinationOutcomes, AllocError>
     requires { (rest : List (Option Doc)) × (documents filled.old.items ≡ rest ++ map read_place (of_combinations (view tree.now))) }
     ensures { IfOk result (λ taken. (rest : List (Option Doc)) → documents filled.old.items ≡ rest ++ map read_place (of_combinations (view tree.now))
         → AreCombinations (view tree.now) taken × (documents filled.new.items ≡ rest)) }
@@ -188,10 +185,7 @@ pub(crate) fn take_content_schema(
 }
 
 /// Takes the outcomes in a tree off the end. Fails where memory runs out.
-pub(crate) fn take_inner(
-    tree: &Value,
-    filled: &mut Outcomes,
-) -> Result<InnerOutcomes, AllocError>
+pub(crate) fn take_inner(tree: &Value, filled: &mut Outcomes) -> Result<InnerOutcomes, AllocError>
     requires { (rest : List (Option Doc)) × (documents filled.old.items ≡ rest ++ map read_place (inner (view tree.now))) }
     ensures { IfOk result (λ taken. (rest : List (Option Doc)) → documents filled.old.items ≡ rest ++ map read_place (inner (view tree.now))
         → AreInner (view tree.now) taken × (documents filled.new.items ≡ rest)) }

@@ -1,8 +1,10 @@
 //! Reading schemas.
 //!
-//! Each reader below puts the places of its tree on a stack, the roots of a walk. The walk finds the places inside, and they are
-//! read from the innermost outwards ([`read_places`]), each counted once. What the roots were read as is put together by the
-//! function of the same name without `read_` (`_from`), which reads the other members.
+//! Each reader below puts the places of its tree on a stack, as the roots of a walk. The walk finds the places inside, and all are
+//! read from the innermost outwards ([`read_places`]), each counted once. What the roots were read as is put together by a
+//! function whose name ends in `_from`, which reads the other members. No reader calls itself.
+//!
+//! Each fails where its tree is not what it reads, and where memory runs out, also for the stack and for the table.
 ghost use Rattle.std.specs.Prelude.{◌≡◌, ◌++◌, map, codes};
 ghost use Rattle.serde_json.specs.View.{view};
 ghost use Rattle.utoipa_base.specs.Kinds.{schema, array_items, additional_properties as additional_kind, ref_or, list_of, map_of, named, one_of_schema, all_of_schema, any_of_schema, array_schema, object_schema};
@@ -130,11 +132,7 @@ pub(crate) fn read_array(
 }
 
 /// An array with the content schema that it has. Fails where the tree is none.
-fn whole_array_from(
-    alloc: Global,
-    tree: &Value,
-    mut outcomes: Outcomes,
-) -> Result<Array, ReadFault>
+fn whole_array_from(alloc: Global, tree: &Value, mut outcomes: Outcomes) -> Result<Array, ReadFault>
     requires { documents outcomes.items ≡ map read_place (of_array (view tree.now)) ++ map read_place (of_content (view tree.now)) }
     ensures { Fits (read (named array_schema) (view tree.now)) array_doc result (counts (documents outcomes.items)) }
 {
