@@ -2,3 +2,4 @@ pub mod Merging
 pub mod Nesting
 pub mod OpenApi
 pub mod Texts
+pub mod Tags

@@ -8,6 +8,19 @@ mod document;
 mod merging;
 mod nesting;
 pub mod openapi;
+mod tags;
 mod text;
+mod traits;
 
+pub use tags::{openapi_of, operation_of};
+pub use traits::{Modify, OpenApi};
 pub use utoipa_base::{Counted, Number, ReadFault, Readings, Tree, has_fraction, laws, same_tree};
+pub use utoipa_compose::{ComposeFault, PartialSchema, ToSchema, TupleUnit, schema_of};
+pub use utoipa_operation_parts::{IntoParams, IntoResponses, ToResponse};
+pub use utoipa_paths::Path;
+
+/// Traits of which the implementations of others are made.
+pub mod __dev {
+    pub use crate::traits::{NestedApiConfig, PathConfig, Tags};
+    pub use utoipa_compose::{ComposeSchema, SchemaReferences};
+}

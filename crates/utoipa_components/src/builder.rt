@@ -1,14 +1,17 @@
 //! Building components.
-ghost use Rattle.std.specs.Prelude.{◌≡◌, IfOk, string_cmp};
+ghost use Rattle.std.specs.Prelude.{◌≡◌, Some, None, IfOk, IfErr, String, string_bytes, string_cmp};
 ghost use Rattle.std.specs.BTreeMap.{insert_entry};
 ghost use Rattle.std.specs.Iterator.{IsFinite, Drains};
 ghost use Rattle.utoipa_base.specs.Fill.{Pairs, put_each};
 ghost use Rattle.utoipa_base.specs.declared.refs.RefOr.{RefOr};
 ghost use Rattle.utoipa_components.specs.Components.{built_components, AreEmptyComponents, PlacesByName, PathItemsByName};
+ghost use Rattle.utoipa_compose.specs.Compositions.{place_doc};
+ghost use Rattle.utoipa_compose.specs.declared.fault.ComposeFault.TheVariants.{KeyIsReference};
 ghost use Rattle.utoipa_leaf.specs.declared.example.Example.{Example};
 ghost use Rattle.utoipa_media.specs.declared.link.Link.{Link};
 ghost use Rattle.utoipa_media.specs.declared.types.Content.{Content};
 ghost use Rattle.utoipa_media.specs.declared.types.Header.{Header};
+ghost use Rattle.utoipa_operation_parts.specs.Traits.{response_place_doc};
 ghost use Rattle.utoipa_operation_parts.specs.declared.parameter.Parameter.{Parameter};
 ghost use Rattle.utoipa_operation_parts.specs.declared.request_body.RequestBody.{RequestBody};
 ghost use Rattle.utoipa_operation_parts.specs.declared.response.Response.{Response};
@@ -19,11 +22,12 @@ ghost use Rattle.utoipa_security.specs.declared.security.scheme.SecurityScheme.{
 use crate::components::Components;
 use std::alloc::{AllocError, Global};
 use utoipa_base::{Extensions, RefOr, put, put_each};
+use utoipa_compose::{ComposeFault, ToSchema};
 use utoipa_leaf::example::Example;
 use utoipa_media::content::Content;
 use utoipa_media::header::Header;
 use utoipa_media::link::Link;
-use utoipa_operation_parts::{Parameter, RequestBody, Response};
+use utoipa_operation_parts::{Parameter, RequestBody, Response, ToResponse};
 use utoipa_path::{Callback, PathItem};
 use utoipa_schema::Schema;
 use utoipa_security::security::SecurityScheme;
@@ -59,6 +63,23 @@ impl ComponentsBuilder {
         put(&mut self.components.schemas, name, schema).and(Ok(self))
     }
 
+    /// Puts the schema of a type, or a reference to it, under the type's name, in place of an earlier one of that name. The schemas
+    /// that it refers to are not put: [`ToSchema::schemas`] gives them.
+    ///
+    /// Fails with `KeyIsReference` exactly where a reference stands for the schema of a map's keys, and with `Memory` where memory runs
+    /// out, and then gives up what was built.
+    pub fn schema_from<T: ToSchema>(self, alloc: Global) -> Result<ComponentsBuilder, ComposeFault>
+        ensures ok { IfOk result (λ b. (name : String Global) × (schema : RefOr Schema) × (held : PlacesByName Schema)
+            × (string_bytes name ≡ T.named) × (T.described ≡ Some (place_doc schema))
+            × (held.entries ≡ insert_entry string_cmp (built_components self).schemas.entries name schema)
+            × (built_components b ≡ record (built_components self) { schemas = held })) }
+        ensures key { IfErr result (λ fault. fault ≡ KeyIsReference → T.described ≡ None) }
+    {
+        let name = T::name().into_owned(alloc)?;
+        let schema = T::schema(alloc)?;
+        Ok(self.schema(name, schema)?)
+    }
+
     /// Puts each of the schemas, or references to such, under its name, in place of an earlier one of that name. The iterator has
     /// to end.
     ///
@@ -89,6 +110,22 @@ impl ComponentsBuilder {
             × (built_components b ≡ record (built_components self) { responses = held })) }
     {
         put(&mut self.components.responses, name, response).and(Ok(self))
+    }
+
+    /// Puts the response of a type, or a reference to it, under the name that the type gives it, in place of an earlier one of that name.
+    ///
+    /// Fails where memory runs out, and then gives up what was built.
+    pub fn response_from<'r, T: ToResponse<'r>>(
+        self,
+        alloc: Global,
+    ) -> Result<ComponentsBuilder, AllocError>
+        ensures { IfOk result (λ b. (name : String Global) × (response : RefOr Response) × (held : PlacesByName Response)
+            × (string_bytes name ≡ T.named) × (response_place_doc response ≡ T.described)
+            × (held.entries ≡ insert_entry string_cmp (built_components self).responses.entries name response)
+            × (built_components b ≡ record (built_components self) { responses = held })) }
+    {
+        let (name, response) = T::response(alloc)?;
+        self.response(String::from_str(alloc, name)?, response)
     }
 
     /// Puts each of the responses, or references to such, under its name, in place of an earlier one of that name. The iterator has

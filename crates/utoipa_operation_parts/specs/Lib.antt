@@ -3,3 +3,4 @@ pub mod RequestBody
 pub mod Response
 pub mod Responses
 pub mod Parameter
+pub mod Traits

@@ -5,7 +5,9 @@ mod json_schema;
 pub mod parameter;
 pub mod request_body;
 pub mod response;
+mod traits;
 
 pub use parameter::{Parameter, ParameterBuilder};
 pub use request_body::{RequestBody, RequestBodyBuilder, RequestBodyExt};
 pub use response::{Response, ResponseBuilder, ResponseExt, Responses, ResponsesBuilder};
+pub use traits::{IntoParams, IntoResponses, ToResponse};

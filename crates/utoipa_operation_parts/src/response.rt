@@ -10,9 +10,11 @@ ghost use Rattle.utoipa_base.specs.declared.refs.RefOr.{RefOr};
 ghost use Rattle.utoipa_media.specs.Builders.{Headers, content_place, content_reference, header_place, header_reference};
 ghost use Rattle.utoipa_operation_parts.specs.JsonSchema.{PutsJsonSchemaInOrder};
 ghost use Rattle.utoipa_operation_parts.specs.Response.{OrderedContents, Links};
+ghost use Rattle.utoipa_operation_parts.specs.Traits.{responses_by_code, with_later};
 ghost use Rattle.utoipa_operation_parts.specs.declared.response.Response.{Response};
 
 use crate::json_schema::{json_media_type, json_schema_content};
+use crate::traits::{IntoResponses, put_responses};
 use indexmap::IndexMap;
 use json::Writer;
 use serde_json::Value;
@@ -467,6 +469,21 @@ impl ResponsesBuilder {
             × (built_responses b ≡ record (built_responses self) { responses = held })) }
     {
         put_each(&mut self.responses.responses, responses).and(Ok(self))
+    }
+
+    /// Puts each response that a type answers under its status code, in place of an earlier one of that code.
+    ///
+    /// Fails where memory runs out, and then gives up what was built.
+    pub fn responses_from_into_responses<R: IntoResponses>(
+        mut self,
+        alloc: Global,
+    ) -> Result<ResponsesBuilder, AllocError>
+        ensures { IfOk result (λ b. (held : ByStatus)
+            × (responses_by_code held ≡ with_later (responses_by_code (built_responses self).responses) R.answered)
+            × (built_responses b ≡ record (built_responses self) { responses = held })) }
+    {
+        put_responses(&mut self.responses.responses, R::responses(alloc)?)?;
+        Ok(self)
     }
 
     /// Sets the specification extensions.

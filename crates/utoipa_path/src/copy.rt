@@ -1,21 +1,27 @@
 //! Copying operations, path items and callbacks, which hold each other.
 //!
-//! The functions of the cycle copy what holds operations or path items; each of these is put together, with the members that
-//! hold none, outside of it.
+//! The functions of the cycle copy what holds operations or path items; the members that hold none are copied outside of it. A path
+//! item is large, so it is copied in place, and on the heap while operations inside of it are copied: a level of path items takes
+//! no room for one on the stack.
 ghost use Rattle.std.specs.Prelude.{◌≡◌, IfOk, OnOk, string_cmp};
 ghost use Rattle.std.specs.BTreeMap.{insert_entry};
 ghost use Rattle.utoipa_base.specs.Kinds.{path_item_object, named};
 ghost use Rattle.utoipa_base.specs.Refs.{ref_or_doc};
 ghost use Rattle.utoipa_base.specs.Tables.{callback as callback_kind};
 ghost use Rattle.utoipa_base.specs.Views.{option_of, map_of_docs};
+ghost use Rattle.utoipa_base.specs.declared.refs.RefOr.{RefOr};
+ghost use Rattle.utoipa_base.specs.declared.refs.RefOr.TheVariants as places;
 ghost use Rattle.utoipa_path.specs.Docs.{operation_doc, path_item_doc, callback_doc, callbacks_doc, operations_of};
+ghost use Rattle.utoipa_path.specs.Methods.{IsEmptyPathItem};
 ghost use Rattle.utoipa_path.specs.declared.types.Operation.{out-Operation};
-ghost use Rattle.utoipa_path.specs.declared.types.PathItem.{out-PathItem};
+ghost use Rattle.utoipa_path.specs.declared.types.PathItem.{PathItem, out-PathItem};
 
+use crate::path_item::empty_path_item;
 use crate::types::{Callback, Operation, PathItem};
 use std::alloc::{AllocError, Global};
 use std::collections::BTreeMap;
-use utoipa_base::{RefOr, Tree, clone_extensions, clone_option};
+use std::mem;
+use utoipa_base::{Ref, RefOr, Tree, clone_extensions, clone_option};
 
 /// Copies an operation. Fails where memory runs out.
 #[cycle(copy)]
@@ -27,26 +33,48 @@ pub(crate) fn clone_operation(alloc: Global, operation: &Operation) -> Result<Op
 }
 
 /// Copies a path item. Fails where memory runs out.
-#[cycle(copy)]
 pub(crate) fn clone_path_item(alloc: Global, item: &PathItem) -> Result<PathItem, AllocError>
     ensures { IfOk result (λ copy. path_item_doc copy ≡ path_item_doc item.now) }
 {
-    let operations = clone_operations(alloc, item)?;
-    clone_path_item_with(alloc, item, operations)
+    let mut copy = empty_path_item(alloc);
+    copy_path_item(&mut copy, alloc, item)?;
+    Ok(copy)
 }
 
-/// Copies a reference, or a path item in its place. Fails where memory runs out.
+/// Makes a path item a copy of another. Fails where memory runs out, and then some of it was copied.
 #[cycle(copy)]
-fn clone_ref_or_path_item(
+fn copy_path_item(copy: &mut PathItem, alloc: Global, item: &PathItem) -> Result<(), AllocError>
+    ensures { OnOk result (path_item_doc copy.new ≡ path_item_doc item.now) }
+{
+    copy_operations(copy, alloc, item)?;
+    copy_beside_operations(copy, alloc, item)
+}
+
+/// Copies a path item to the heap. Fails where memory runs out.
+#[cycle(copy)]
+fn clone_boxed_path_item(alloc: Global, item: &PathItem) -> Result<Box<PathItem>, AllocError>
+    ensures { IfOk result (λ copy. path_item_doc copy.value ≡ path_item_doc item.now) }
+{
+    let mut copy = boxed_empty_path_item(alloc)?;
+    copy_path_item(&mut *copy, alloc, item)?;
+    Ok(copy)
+}
+
+/// Puts a copy of a reference, or of a path item in its place, into a callback under an expression. Fails where memory runs out.
+#[cycle(copy)]
+fn put_ref_or_path_item(
+    callback: &mut Callback,
     alloc: Global,
+    expression: String,
     place: &RefOr<PathItem>,
-) -> Result<RefOr<PathItem>, AllocError>
-    ensures { IfOk result (λ copy. ref_or_doc (named path_item_object) path_item_doc copy
-        ≡ ref_or_doc (named path_item_object) path_item_doc place.now) }
+) -> Result<(), AllocError>
+    ensures { OnOk result ((copy : RefOr PathItem)
+        × (ref_or_doc (named path_item_object) path_item_doc copy ≡ ref_or_doc (named path_item_object) path_item_doc place.now)
+        × (callback.new.entries ≡ insert_entry string_cmp callback.old.entries expression copy)) }
 {
     match place {
-        RefOr::Ref(reference) => Ok(RefOr::Ref(reference.try_clone(alloc)?)),
-        RefOr::T(value) => Ok(RefOr::T(clone_path_item(alloc, value)?)),
+        RefOr::Ref(reference) => put_reference(callback, expression, reference.try_clone(alloc)?),
+        RefOr::T(item) => put_boxed(callback, expression, clone_boxed_path_item(alloc, item)?),
     }
 }
 
@@ -58,8 +86,7 @@ pub(crate) fn clone_callback(alloc: Global, callback: &Callback) -> Result<Callb
     let mut map = BTreeMap::new(alloc);
     for (key, member) in callback.iter() {
         let name = key.clone()?;
-        let value = clone_ref_or_path_item(alloc, member)?;
-        put(&mut map, name, value)?;
+        put_ref_or_path_item(&mut map, alloc, name, member)?;
     }
     Ok(map)
 }
@@ -113,41 +140,82 @@ fn clone_operation_map(
     Ok(map)
 }
 
-/// Copies the operation of a method, if there is one. Fails where memory runs out.
+/// Makes the operation of a method a copy of another, if there is one. Fails where memory runs out, and then nothing has changed.
 #[cycle(copy)]
-fn clone_method(alloc: Global, method: &Option<Operation>) -> Result<Option<Operation>, AllocError>
-    ensures { IfOk result (λ copy. option_of operation_doc copy ≡ option_of operation_doc method.now) }
+fn copy_method(
+    copy: &mut Option<Operation>,
+    alloc: Global,
+    method: &Option<Operation>,
+) -> Result<(), AllocError>
+    ensures { OnOk result (option_of operation_doc copy.new ≡ option_of operation_doc method.now) }
 {
     match method {
-        Some(value) => Ok(Some(clone_operation(alloc, value)?)),
-        None => Ok(None),
+        Some(operation) => replace(copy, Some(clone_operation(alloc, operation)?)),
+        None => replace(copy, None),
     }
+    Ok(())
 }
 
-/// A path item that has copies of the operations of another, and nothing else. Fails where memory runs out.
+/// Makes the operations of a path item copies of those of another. Fails where memory runs out, and then some were copied.
 #[cycle(copy)]
-fn clone_operations(alloc: Global, item: &PathItem) -> Result<PathItem, AllocError>
-    ensures { IfOk result (λ copy. operations_of operation_doc (out-PathItem copy)
+fn copy_operations(copy: &mut PathItem, alloc: Global, item: &PathItem) -> Result<(), AllocError>
+    ensures { OnOk result (operations_of operation_doc (out-PathItem copy.new)
         ≡ operations_of operation_doc (out-PathItem item.now)) }
 {
-    Ok(PathItem {
-        ref_path: None,
-        summary: None,
-        description: None,
-        servers: None,
-        parameters: None,
-        get: clone_method(alloc, &item.get)?,
-        put: clone_method(alloc, &item.put)?,
-        post: clone_method(alloc, &item.post)?,
-        delete: clone_method(alloc, &item.delete)?,
-        options: clone_method(alloc, &item.options)?,
-        head: clone_method(alloc, &item.head)?,
-        patch: clone_method(alloc, &item.patch)?,
-        trace: clone_method(alloc, &item.trace)?,
-        query: clone_method(alloc, &item.query)?,
-        additional_operations: clone_operation_map(alloc, &item.additional_operations)?,
-        extensions: None,
-    })
+    copy_method(&mut copy.get, alloc, &item.get)?;
+    copy_method(&mut copy.put, alloc, &item.put)?;
+    copy_method(&mut copy.post, alloc, &item.post)?;
+    copy_method(&mut copy.delete, alloc, &item.delete)?;
+    copy_method(&mut copy.options, alloc, &item.options)?;
+    copy_method(&mut copy.head, alloc, &item.head)?;
+    copy_method(&mut copy.patch, alloc, &item.patch)?;
+    copy_method(&mut copy.trace, alloc, &item.trace)?;
+    copy_method(&mut copy.query, alloc, &item.query)?;
+    let additional = clone_operation_map(alloc, &item.additional_operations)?;
+    drop(mem::replace(&mut copy.additional_operations, additional));
+    Ok(())
+}
+
+/// Sets the operation of a method, or that there is none.
+// Not inlined: two operations need not stand on the stack while one inside is copied.
+#[inline(never)]
+fn replace(field: &mut Option<Operation>, operation: Option<Operation>)
+    ensures { field.new ≡ operation }
+{
+    drop(mem::replace(field, operation));
+}
+
+/// A path item on the heap, of which nothing is said. Fails where memory runs out.
+#[inline(never)]
+fn boxed_empty_path_item(alloc: Global) -> Result<Box<PathItem>, AllocError>
+    ensures { IfOk result (λ item. IsEmptyPathItem (out-PathItem item.value)) }
+{
+    Ok(Box::new(alloc, empty_path_item(alloc))?)
+}
+
+/// Puts a path item from the heap into a callback under an expression. Fails where memory runs out.
+#[inline(never)]
+fn put_boxed(
+    callback: &mut Callback,
+    expression: String,
+    item: Box<PathItem>,
+) -> Result<(), AllocError>
+    ensures { OnOk result (callback.new.entries ≡ insert_entry string_cmp callback.old.entries expression (places.T item.value)) }
+{
+    put(callback, expression, RefOr::T(Box::into_inner(item)))
+}
+
+/// Puts a reference into a callback under an expression. Fails where memory runs out.
+// Not inlined: a place has room for a path item too.
+#[inline(never)]
+fn put_reference(
+    callback: &mut Callback,
+    expression: String,
+    reference: Ref,
+) -> Result<(), AllocError>
+    ensures { OnOk result (callback.new.entries ≡ insert_entry string_cmp callback.old.entries expression (places.Ref reference)) }
+{
+    put(callback, expression, RefOr::Ref(reference))
 }
 
 /// Puts a value into a map under its name. Fails where memory runs out.
@@ -199,24 +267,22 @@ fn clone_operation_with(
     })
 }
 
-/// Copies a path item, whose operations have been copied. Fails where memory runs out.
+/// Makes a path item that has copies of the operations of another a copy of it. Fails where memory runs out, and then some was copied.
 #[inline(never)]
-fn clone_path_item_with(
+fn copy_beside_operations(
+    copy: &mut PathItem,
     alloc: Global,
     item: &PathItem,
-    operations: PathItem,
-) -> Result<PathItem, AllocError>
-    ensures { IfOk result (λ copy. operations_of operation_doc (out-PathItem operations)
+) -> Result<(), AllocError>
+    ensures { OnOk result (operations_of operation_doc (out-PathItem copy.old)
         ≡ operations_of operation_doc (out-PathItem item.now)
-        → path_item_doc copy ≡ path_item_doc item.now) }
+        → path_item_doc copy.new ≡ path_item_doc item.now) }
 {
-    Ok(PathItem {
-        ref_path: clone_option(alloc, &item.ref_path)?,
-        summary: clone_option(alloc, &item.summary)?,
-        description: clone_option(alloc, &item.description)?,
-        servers: clone_option(alloc, &item.servers)?,
-        parameters: clone_option(alloc, &item.parameters)?,
-        extensions: clone_extensions(alloc, &item.extensions)?,
-        ..operations
-    })
+    copy.ref_path = clone_option(alloc, &item.ref_path)?;
+    copy.summary = clone_option(alloc, &item.summary)?;
+    copy.description = clone_option(alloc, &item.description)?;
+    copy.servers = clone_option(alloc, &item.servers)?;
+    copy.parameters = clone_option(alloc, &item.parameters)?;
+    copy.extensions = clone_extensions(alloc, &item.extensions)?;
+    Ok(())
 }

@@ -3,15 +3,23 @@ use Rattle.std.specs.Prelude.{◌≡◌, ℕ, List, [], ◌∷◌, Option, None,
 use Rattle.std.specs.Str.{bytes_eq}
 use Rattle.std.specs.BTreeMap.{BTreeMap, get_by_text}
 use Rattle.std.specs.declared.alloc.Global.{Global}
+use Rattle.utoipa_base.specs.Docs.{Doc}
 use Rattle.utoipa_base.specs.Views.{map_of_docs}
+use Rattle.utoipa_leaf.specs.declared.path.HttpMethod.{HttpMethod}
 use Rattle.utoipa_merging.specs.Merged.{IsItemMerged, IsInOrder}
 use Rattle.utoipa_merging.specs.Slots.{field_at}
+use Rattle.utoipa_path.specs.Builders.{PathItemFields}
 use Rattle.utoipa_path.specs.Docs.{path_item_doc}
-use Rattle.utoipa_path.specs.declared.types.PathItem.{PathItem}
+use Rattle.utoipa_path.specs.Methods.{IsEmptyPathItem, HoldAtMethods}
+use Rattle.utoipa_path.specs.declared.types.PathItem.{PathItem, out-PathItem}
 
 -- path items by their paths
 abbrev pub ItemsByPath : Type 0
 ItemsByPath = BTreeMap (String Global) PathItem
+
+-- the item has an operation of this document under each of the methods, and nothing else is said of it
+abbrev pub IsItemOf : (methods : List HttpMethod) → Doc → PathItem → Type 0
+IsItemOf methods d item = (empty : PathItemFields) × IsEmptyPathItem empty × HoldAtMethods methods d empty (out-PathItem item)
 
 -- what stands once an item is put: the item itself where none stood, and else the standing one with the operations that it lacked
 abbrev pub IsMergedWith : (standing : Option PathItem) (item now : PathItem) → Type 0

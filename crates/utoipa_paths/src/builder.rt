@@ -1,11 +1,13 @@
 //! Building paths.
 ghost use Rattle.std.specs.Prelude.{◌≡◌, IfOk, string_bytes};
 ghost use Rattle.utoipa_merging.specs.Merged.{ArePathsInOrder, IsInOrder};
-ghost use Rattle.utoipa_paths.specs.Items.{IsItemPut, IsItemInOrder};
+ghost use Rattle.utoipa_path.specs.declared.types.PathItem.{PathItem};
+ghost use Rattle.utoipa_paths.specs.Items.{IsItemOf, IsItemPut, IsItemInOrder};
 ghost use Rattle.utoipa_paths.specs.Paths.{paths_doc, built_paths, IsEmptyPaths};
 
 use crate::items::put_item;
 use crate::paths::Paths;
+use crate::traits::{Path, item_from};
 use std::alloc::{AllocError, Global};
 use utoipa_base::Extensions;
 use utoipa_path::PathItem;
@@ -43,6 +45,21 @@ impl PathsBuilder {
     {
         put_item(&mut self.paths.paths, alloc, path, item)?;
         Ok(self)
+    }
+
+    /// Puts a new item at the path of a type, with its operation under each of its methods; an item without operations where it has no
+    /// methods. Where an item stands there, the operations that it lacks are filled in, as [`PathsBuilder::path`] does.
+    ///
+    /// Fails where memory runs out, and then gives up what was built.
+    pub fn path_from<P: Path>(self, alloc: Global) -> Result<PathsBuilder, AllocError>
+        ensures put { IfOk result (λ b. (item : PathItem) × IsItemOf P.listed P.described item
+            × IsItemPut P.named item (built_paths self).paths (built_paths b).paths) }
+        ensures extensions { IfOk result (λ b. (built_paths b).extensions ≡ (built_paths self).extensions) }
+        ensures ordered { IfOk result (λ b. ArePathsInOrder (paths_doc (built_paths self)) → ArePathsInOrder (paths_doc (built_paths b))) }
+    {
+        let path = P::path(alloc)?;
+        let item = item_from::<P>(alloc)?;
+        self.path(alloc, path, item)
     }
 
     /// Sets the specification extensions.

@@ -5,7 +5,9 @@ mod builder;
 mod items;
 mod merging;
 pub mod paths;
+mod traits;
 
 pub use builder::PathsBuilder;
 pub use merging::merge_paths;
 pub use paths::{Paths, PathsMap};
+pub use traits::Path;

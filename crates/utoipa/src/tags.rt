@@ -1,0 +1,163 @@
+//! Operations and documents of types that say tags beside those of the operations.
+ghost use Rattle.std.specs.Prelude.{◌≡◌, ◌++◌, IfOk, OnOk, map, string_bytes};
+ghost use Rattle.utoipa_base.specs.Views.{option_of, map_of_docs};
+ghost use Rattle.utoipa_path.specs.Docs.{operation_doc, path_item_doc};
+ghost use Rattle.utoipa_path.specs.Lists.{items_if_any};
+ghost use Rattle.utoipa.specs.OpenApi.{openapi_doc};
+ghost use Rattle.utoipa.specs.Tags.{texts_of, or_module, with_tags, nested_operation, nested_item, nested_openapi, in_option, in_entries};
+
+use crate::document::OpenApi;
+use crate::traits::{NestedApiConfig, PathConfig};
+use std::alloc::{AllocError, Global};
+use std::collections::BTreeMap;
+use std::mem;
+use utoipa_base::put;
+use utoipa_path::{Operation, PathItem};
+use utoipa_paths::PathsMap;
+
+/// The operation of a type, whose tags are its own, and behind them those that the type says beside it. It has a list of tags also
+/// where there are none.
+///
+/// Fails where memory runs out.
+pub fn operation_of<T: PathConfig>(alloc: Global) -> Result<Operation, AllocError>
+    ensures { IfOk result (λ operation. operation_doc operation ≡ with_tags T.tagged T.described) }
+{
+    let (tags, operation) = T::tags_and_operation(alloc)?;
+    let mut operation = operation;
+    add_tags(&mut operation, alloc, &tags)?;
+    Ok(operation)
+}
+
+/// The document of a type, where each operation under one of the eight methods of [`HttpMethod`](crate::openapi::HttpMethod) has its
+/// tags, and behind them those that the type says. Where these are none, the path of the module is the one tag, unless it is empty. An
+/// operation has a list of tags also where there are none. The operations of QUERY and those under further names, those of webhooks and
+/// of components stay as they are.
+///
+/// Fails where memory runs out.
+pub fn openapi_of<T: NestedApiConfig>(alloc: Global) -> Result<OpenApi, AllocError>
+    ensures { IfOk result (λ document. openapi_doc document ≡ nested_openapi T.tagged T.module_path T.described) }
+{
+    let (document, tags, module_path) = T::config(alloc)?;
+    let mut document = document;
+    let items = mem::replace(&mut document.paths.paths, BTreeMap::new(alloc));
+    let items = nested_items(alloc, items, &tags, module_path)?;
+    drop(mem::replace(&mut document.paths.paths, items));
+    Ok(document)
+}
+
+/// The path items, whose operations have their tags and the further ones. Fails where memory runs out.
+fn nested_items(
+    alloc: Global,
+    items: PathsMap<String, PathItem>,
+    tags: &Vec<&'static str>,
+    module_path: &str,
+) -> Result<PathsMap<String, PathItem>, AllocError>
+    ensures { IfOk result (λ nested. map_of_docs path_item_doc nested
+        ≡ in_entries (nested_item (texts_of tags.now.items) module_path.now) (map_of_docs path_item_doc items)) }
+{
+    let mut nested = BTreeMap::new(alloc);
+    for (path, item) in items {
+        let mut item = item;
+        tag_item(&mut item, alloc, tags, module_path)?;
+        put(&mut nested, path, item)?;
+    }
+    Ok(nested)
+}
+
+/// Adds further tags to the operations of a path item. Fails where memory runs out, and then some operations have them.
+fn tag_item(
+    item: &mut PathItem,
+    alloc: Global,
+    tags: &Vec<&'static str>,
+    module_path: &str,
+) -> Result<(), AllocError>
+    ensures { OnOk result (path_item_doc item.new ≡ nested_item (texts_of tags.now.items) module_path.now (path_item_doc item.old)) }
+{
+    tag_method(&mut item.get, alloc, tags, module_path)?;
+    tag_method(&mut item.put, alloc, tags, module_path)?;
+    tag_method(&mut item.post, alloc, tags, module_path)?;
+    tag_method(&mut item.delete, alloc, tags, module_path)?;
+    tag_method(&mut item.options, alloc, tags, module_path)?;
+    tag_method(&mut item.head, alloc, tags, module_path)?;
+    tag_method(&mut item.patch, alloc, tags, module_path)?;
+    tag_method(&mut item.trace, alloc, tags, module_path)
+}
+
+/// Adds further tags to the operation of a method, if there is one. Fails where memory runs out.
+fn tag_method(
+    method: &mut Option<Operation>,
+    alloc: Global,
+    tags: &Vec<&'static str>,
+    module_path: &str,
+) -> Result<(), AllocError>
+    ensures { OnOk result (option_of operation_doc method.new
+        ≡ in_option (nested_operation (texts_of tags.now.items) module_path.now) (option_of operation_doc method.old)) }
+{
+    match method {
+        Some(operation) => tag_operation(operation, alloc, tags, module_path),
+        None => Ok(()),
+    }
+}
+
+/// Adds further tags to an operation; where it has none then, the path of the module, unless it is empty. Fails where memory runs out,
+/// and then the operation may have lost its tags.
+fn tag_operation(
+    operation: &mut Operation,
+    alloc: Global,
+    tags: &Vec<&'static str>,
+    module_path: &str,
+) -> Result<(), AllocError>
+    ensures { OnOk result (operation_doc operation.new ≡ nested_operation (texts_of tags.now.items) module_path.now (operation_doc operation.old)) }
+{
+    let own = mem::replace(&mut operation.tags, None);
+    let tags = tags_behind(alloc, own, tags)?;
+    operation.tags = Some(tags_or_module(alloc, tags, module_path)?);
+    Ok(())
+}
+
+/// Adds further tags to an operation, which has a list of tags then. Fails where memory runs out, and then the operation may have lost
+/// its tags.
+fn add_tags(
+    operation: &mut Operation,
+    alloc: Global,
+    tags: &Vec<&'static str>,
+) -> Result<(), AllocError>
+    ensures { OnOk result (operation_doc operation.new ≡ with_tags (texts_of tags.now.items) (operation_doc operation.old)) }
+{
+    let own = mem::replace(&mut operation.tags, None);
+    operation.tags = Some(tags_behind(alloc, own, tags)?);
+    Ok(())
+}
+
+/// The tags of a list that may be absent, and further tags behind them. Fails where memory runs out.
+fn tags_behind(
+    alloc: Global,
+    own: Option<Vec<String>>,
+    further: &Vec<&'static str>,
+) -> Result<Vec<String>, AllocError>
+    ensures { IfOk result (λ tags. map string_bytes tags.items ≡ map string_bytes (items_if_any own) ++ texts_of further.now.items) }
+{
+    let mut tags = match own {
+        Some(tags) => tags,
+        None => Vec::new(alloc),
+    };
+    for tag in further {
+        tags.push(String::from_str(alloc, tag)?)?;
+    }
+    Ok(tags)
+}
+
+/// The tags, or where there are none the path of the module, unless it is empty. Fails where memory runs out.
+fn tags_or_module(
+    alloc: Global,
+    tags: Vec<String>,
+    module_path: &str,
+) -> Result<Vec<String>, AllocError>
+    ensures { IfOk result (λ made. map string_bytes made.items ≡ or_module module_path.now (map string_bytes tags.items)) }
+{
+    let mut tags = tags;
+    if tags.is_empty() && !module_path.is_empty() {
+        tags.push(String::from_str(alloc, module_path)?)?;
+    }
+    Ok(tags)
+}
