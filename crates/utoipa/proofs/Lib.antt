@@ -5,3 +5,4 @@ pub mod Mounted
 pub mod PartsOfDocuments
 pub mod PrettyTexts
 pub mod TextReadings
+pub mod FurtherTags

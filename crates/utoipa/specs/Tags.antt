@@ -2,10 +2,13 @@
 use Rattle.std.specs.Prelude.{ℕ, List, [], ◌∷◌, ◌++◌, if◌then◌else◌, map, codes}
 use Rattle.std.specs.Borrow.{Bor}
 use Rattle.std.specs.Str.{bytes_eq}
-use Rattle.utoipa_base.specs.Docs.{Doc, text_doc, some_doc, list_doc, map_doc, entries_doc, table_doc, Docs, no_docs, doc, docs_of, Entries, no_entries, entry}
+use Rattle.utoipa_base.specs.Docs.{Doc, text_doc, some_doc, list_doc, map_doc, entries_doc, table_doc, Docs, no_docs, doc, docs_of, Entries, no_entries, entry, entries_of_list}
 use Rattle.utoipa_base.specs.Kinds.{Row}
 use Rattle.utoipa_base.specs.Tables.{table}
+use Rattle.utoipa_base.specs.Views.{pairs_of}
 use Rattle.utoipa_merging.specs.Slots.{items_in}
+use Rattle.utoipa_path.specs.Docs.{path_item_doc}
+use Rattle.utoipa_paths.specs.Items.{ItemsByPath}
 
 -- the texts that are shown
 abbrev pub texts_of : List (Bor (List ℕ)) → List (List ℕ)
@@ -43,6 +46,10 @@ abbrev pub in_entries : (Doc → Doc) → Doc → Doc
 in_entries change (map_doc es) = map_doc (change_entries change es)
 in_entries change (entries_doc es e) = entries_doc (change_entries change es) e
 in_entries change d = d
+
+-- the path items as entries
+abbrev pub item_entries : ItemsByPath → Entries
+item_entries items = entries_of_list (pairs_of path_item_doc items.entries)
 
 -- ---- tags
 

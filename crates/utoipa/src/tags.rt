@@ -1,10 +1,11 @@
 //! Operations and documents of types that say tags beside those of the operations.
 ghost use Rattle.std.specs.Prelude.{◌≡◌, ◌++◌, IfOk, OnOk, map, string_bytes};
-ghost use Rattle.utoipa_base.specs.Views.{option_of, map_of_docs};
+ghost use Rattle.utoipa_base.specs.Docs.{Doc};
+ghost use Rattle.utoipa_base.specs.Views.{option_of};
 ghost use Rattle.utoipa_path.specs.Docs.{operation_doc, path_item_doc};
 ghost use Rattle.utoipa_path.specs.Lists.{items_if_any};
 ghost use Rattle.utoipa.specs.OpenApi.{openapi_doc};
-ghost use Rattle.utoipa.specs.Tags.{texts_of, or_module, with_tags, nested_operation, nested_item, nested_openapi, in_option, in_entries};
+ghost use Rattle.utoipa.specs.Tags.{texts_of, or_module, with_tags, nested_operation, nested_item, nested_openapi, in_option, item_entries, change_entries};
 
 use crate::document::OpenApi;
 use crate::traits::{NestedApiConfig, PathConfig};
@@ -20,7 +21,7 @@ use utoipa_paths::PathsMap;
 ///
 /// Fails where memory runs out.
 pub fn operation_of<T: PathConfig>(alloc: Global) -> Result<Operation, AllocError>
-    ensures { IfOk result (λ operation. operation_doc operation ≡ with_tags T.tagged T.described) }
+    ensures { IfOk result (λ operation. (own : Doc) × T.IsDescribed own × (operation_doc operation ≡ with_tags T.tagged own)) }
 {
     let (tags, operation) = T::tags_and_operation(alloc)?;
     let mut operation = operation;
@@ -35,7 +36,7 @@ pub fn operation_of<T: PathConfig>(alloc: Global) -> Result<Operation, AllocErro
 ///
 /// Fails where memory runs out.
 pub fn openapi_of<T: NestedApiConfig>(alloc: Global) -> Result<OpenApi, AllocError>
-    ensures { IfOk result (λ document. openapi_doc document ≡ nested_openapi T.tagged T.module_path T.described) }
+    ensures { IfOk result (λ document. (own : Doc) × T.IsDescribed own × (openapi_doc document ≡ nested_openapi T.tagged T.module_path own)) }
 {
     let (document, tags, module_path) = T::config(alloc)?;
     let mut document = document;
@@ -52,8 +53,7 @@ fn nested_items(
     tags: &Vec<&'static str>,
     module_path: &str,
 ) -> Result<PathsMap<String, PathItem>, AllocError>
-    ensures { IfOk result (λ nested. map_of_docs path_item_doc nested
-        ≡ in_entries (nested_item (texts_of tags.now.items) module_path.now) (map_of_docs path_item_doc items)) }
+    ensures { IfOk result (λ nested. item_entries nested ≡ change_entries (nested_item (texts_of tags.now.items) module_path.now) (item_entries items)) }
 {
     let mut nested = BTreeMap::new(alloc);
     for (path, item) in items {

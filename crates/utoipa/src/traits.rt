@@ -13,12 +13,12 @@ use utoipa_path::Operation;
 
 /// A type that says the document of an API.
 pub trait OpenApi {
-    // The document.
-    ghost described: { Doc };
+    // What the document is like.
+    ghost IsDescribed: { Doc → Type 0 };
 
     /// The document. Fails where memory runs out.
     fn openapi(alloc: Global) -> Result<openapi::OpenApi, AllocError>
-        ensures { IfOk result (λ document. openapi_doc document ≡ described) };
+        ensures { IfOk result (λ document. IsDescribed (openapi_doc document)) };
 }
 
 /// A value that changes documents, as one does that adds security schemes. What it changes, its own type says.
@@ -49,8 +49,8 @@ pub trait PathConfig {
     // The tags beside those of the operation, by their names.
     ghost tagged: { List (List ℕ) };
 
-    // The operation.
-    ghost described: { Doc };
+    // What the operation is like.
+    ghost IsDescribed: { Doc → Type 0 };
 
     /// The path of the operation. Fails where memory runs out.
     fn path(alloc: Global) -> Result<String, AllocError>
@@ -62,14 +62,14 @@ pub trait PathConfig {
 
     /// The names of the tags beside those of the operation, and the operation. Fails where memory runs out.
     fn tags_and_operation(alloc: Global) -> Result<(Vec<&'static str>, Operation), AllocError>
-        ensures { IfOk result (λ made. (texts_of made.0.items ≡ tagged) × (operation_doc made.1 ≡ described)) };
+        ensures { IfOk result (λ made. (texts_of made.0.items ≡ tagged) × IsDescribed (operation_doc made.1)) };
 }
 
 /// A document that is nested into another, with the tags that its operations bear there. [`openapi_of`](crate::openapi_of) puts them
 /// together.
 pub trait NestedApiConfig {
-    // The document.
-    ghost described: { Doc };
+    // What the document is like.
+    ghost IsDescribed: { Doc → Type 0 };
 
     // The tags beside those of each operation, by their names.
     ghost tagged: { List (List ℕ) };
@@ -81,5 +81,5 @@ pub trait NestedApiConfig {
     fn config(
         alloc: Global,
     ) -> Result<(openapi::OpenApi, Vec<&'static str>, &'static str), AllocError>
-        ensures { IfOk result (λ made. (openapi_doc made.0 ≡ described) × (texts_of made.1.items ≡ tagged) × (made.2.now ≡ module_path)) };
+        ensures { IfOk result (λ made. IsDescribed (openapi_doc made.0) × (texts_of made.1.items ≡ tagged) × (made.2.now ≡ module_path)) };
 }

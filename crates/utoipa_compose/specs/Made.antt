@@ -1,7 +1,7 @@
 -- The schemas that types are composed to, as documents.
-use Rattle.std.specs.Prelude.{◌∷◌, [], Bool, true, false, List, None, pos}
+use Rattle.std.specs.Prelude.{◌∷◌, [], ℕ, Bool, true, false, List, None, map, pos}
 use Rattle.serde_json.specs.Data.{null}
-use Rattle.utoipa_base.specs.Docs.{Doc, flag_doc, int_doc, text_doc, tree_doc, list_doc, map_doc, none_doc, some_doc, own_doc, any_value_doc, table_doc, no_docs, doc, no_entries, docs_of}
+use Rattle.utoipa_base.specs.Docs.{Doc, flag_doc, int_doc, text_doc, tree_doc, list_doc, map_doc, none_doc, some_doc, own_doc, any_value_doc, table_doc, no_docs, doc, no_entries, docs_of, entries_of_list}
 use Rattle.utoipa_base.specs.Docs as docs
 use Rattle.utoipa_base.specs.Kinds.{array_schema, object_schema, one_of_schema}
 use Rattle.utoipa_schema_parts.specs.Format.{known_format_doc}
@@ -24,9 +24,10 @@ no_text = text_doc []
 
 -- ---- schemas of which nothing is said but some members
 
--- an object schema: its types, format, default, the schemas of its values and of its keys, and its least value
-abbrev pub object_of : (types format default values keys minimum : Doc) → Doc
-object_of types format default values keys minimum =
+-- an object schema: its types, format, default, the names of the properties that have to be there, the schemas of its properties, of
+-- its other values and of its keys, and its least value
+abbrev pub object_with : (types format default required properties values keys minimum : Doc) → Doc
+object_with types format default required properties values keys minimum =
     own_doc (docs.schema_doc (table_doc object_schema
     (doc types
     (doc none_doc
@@ -34,8 +35,8 @@ object_of types format default values keys minimum =
     (doc none_doc
     (doc default
     (doc none_doc
-    (doc no_list
-    (doc no_map
+    (doc required
+    (doc properties
     (doc values
     (doc keys
     (doc none_doc
@@ -58,6 +59,10 @@ object_of types format default values keys minimum =
     (doc no_text
     (doc none_doc no_docs)))))))))))))))))))))))))))))
     None))
+
+-- an object schema without properties
+abbrev pub object_of : (types format default values keys minimum : Doc) → Doc
+object_of types format default values keys minimum = object_with types format default no_list no_map values keys minimum
 
 -- an array of the items, which may have to be unique
 abbrev pub array_of : (items : Doc) (unique : Bool) → Doc
@@ -166,3 +171,9 @@ boolean = typed words.Boolean
 
 abbrev pub text : Doc
 text = typed words.String
+
+-- ---- the schema of a struct
+
+-- an object with these properties, of which those of these names have to be there
+abbrev pub struct_of : (required : List (List ℕ)) (properties : List (List ℕ × Doc)) → Doc
+struct_of required properties = object_with (type_word_doc words.Object) none_doc none_doc (list_doc (docs_of (map text_doc required))) (map_doc (entries_of_list properties)) none_doc none_doc none_doc

@@ -1,5 +1,5 @@
 -- The responses that types answer.
-use Rattle.std.specs.Prelude.{ℕ, List, [], ◌∷◌}
+use Rattle.std.specs.Prelude.{◌≡◌, ℕ, List, [], ◌∷◌}
 use Rattle.std.specs.BTreeMap.{insert_entry}
 use Rattle.std.specs.Cmp.Lexicographic.{slice_cmp}
 use Rattle.std.specs.Ordering.{nat_cmp}
@@ -28,3 +28,7 @@ responses_by_code r = pairs_of response_place_doc r.entries
 abbrev pub with_later : (earlier later : ByCode) → ByCode
 with_later earlier [] = earlier
 with_later earlier (r ∷ later) = with_later (insert_entry (slice_cmp nat_cmp) earlier r.0 r.1) later
+
+-- the responses are the earlier and the later ones, where there are such
+abbrev pub AreOfBoth : (Earlier Later : ByCode → Type 0) → ByCode → Type 0
+AreOfBoth Earlier Later responses = (earlier later : ByCode) × Earlier earlier × Later later × (responses ≡ with_later earlier later)

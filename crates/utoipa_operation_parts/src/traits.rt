@@ -6,7 +6,7 @@ ghost use Rattle.utoipa_base.specs.Fill.{put_each};
 ghost use Rattle.utoipa_leaf.specs.declared.path.ParameterIn.{ParameterIn};
 ghost use Rattle.utoipa_operation_parts.specs.Parameter.{parameter_doc};
 ghost use Rattle.utoipa_operation_parts.specs.Responses.{ByStatus};
-ghost use Rattle.utoipa_operation_parts.specs.Traits.{ByCode, responses_by_code, response_place_doc, with_later};
+ghost use Rattle.utoipa_operation_parts.specs.Traits.{ByCode, responses_by_code, response_place_doc, AreOfBoth};
 
 use crate::parameter::Parameter;
 use crate::response::Response;
@@ -17,7 +17,7 @@ use utoipa_leaf::path::ParameterIn;
 
 /// A type whose fields are parameters of an operation.
 pub trait IntoParams {
-    // What the parameters are, by the places that the provider may answer.
+    // What the parameters are like, by the places that the provider may answer.
     ghost AreDescribed: { (MayBeIn : Option ParameterIn → Type 0) → List Doc → Type 0 };
 
     /// The parameters. The provider answers where a parameter stands of which the type does not say it.
@@ -36,27 +36,27 @@ pub trait ToResponse<'r> {
     // The name.
     ghost named: { List ℕ };
 
-    // The response, or a reference to one.
-    ghost described: { Doc };
+    // What the response, or the reference to one, is like.
+    ghost IsDescribed: { Doc → Type 0 };
 
     /// The response, or a reference to one, with its name. Fails where memory runs out.
     fn response(alloc: Global) -> Result<(&'r str, RefOr<Response>), AllocError>
-        ensures { IfOk result (λ made. (made.0.now ≡ named) × (response_place_doc made.1 ≡ described)) };
+        ensures { IfOk result (λ made. (made.0.now ≡ named) × IsDescribed (response_place_doc made.1)) };
 }
 
 /// A type whose values are answered as one of several responses.
 pub trait IntoResponses {
-    // The responses by their status codes.
-    ghost answered: { ByCode };
+    // What the responses, by their status codes, are like.
+    ghost AreAnswered: { ByCode → Type 0 };
 
     /// The responses, or references to such, by their status codes. Fails where memory runs out.
     fn responses(alloc: Global) -> Result<BTreeMap<String, RefOr<Response>>, AllocError>
-        ensures { IfOk result (λ made. responses_by_code made ≡ answered) };
+        ensures { IfOk result (λ made. AreAnswered (responses_by_code made)) };
 }
 
 /// No response.
 impl IntoResponses for () {
-    ghost answered = { [] };
+    ghost AreAnswered = { λ responses. responses ≡ [] };
 
     fn responses(alloc: Global) -> Result<BTreeMap<String, RefOr<Response>>, AllocError> {
         Ok(BTreeMap::new(alloc))
@@ -65,7 +65,7 @@ impl IntoResponses for () {
 
 /// The responses of what is answered where all is well and of what is answered where it is not, which win where both have a code.
 impl<T: IntoResponses, E: IntoResponses> IntoResponses for Result<T, E> {
-    ghost answered = { with_later T.answered E.answered };
+    ghost AreAnswered = { λ responses. AreOfBoth T.AreAnswered E.AreAnswered responses };
 
     fn responses(alloc: Global) -> Result<BTreeMap<String, RefOr<Response>>, AllocError> {
         let mut responses = T::responses(alloc)?;

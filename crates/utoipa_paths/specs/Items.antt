@@ -17,9 +17,9 @@ use Rattle.utoipa_path.specs.declared.types.PathItem.{PathItem, out-PathItem}
 abbrev pub ItemsByPath : Type 0
 ItemsByPath = BTreeMap (String Global) PathItem
 
--- the item has an operation of this document under each of the methods, and nothing else is said of it
-abbrev pub IsItemOf : (methods : List HttpMethod) → Doc → PathItem → Type 0
-IsItemOf methods d item = (empty : PathItemFields) × IsEmptyPathItem empty × HoldAtMethods methods d empty (out-PathItem item)
+-- the item has one such operation under each of the methods, and nothing else is said of it
+abbrev pub IsItemOf : (methods : List HttpMethod) → (Doc → Type 0) → PathItem → Type 0
+IsItemOf methods IsSuch item = (operation : Doc) × (empty : PathItemFields) × IsSuch operation × IsEmptyPathItem empty × HoldAtMethods methods operation empty (out-PathItem item)
 
 -- what stands once an item is put: the item itself where none stood, and else the standing one with the operations that it lacked
 abbrev pub IsMergedWith : (standing : Option PathItem) (item now : PathItem) → Type 0

@@ -52,7 +52,7 @@ impl PathsBuilder {
     ///
     /// Fails where memory runs out, and then gives up what was built.
     pub fn path_from<P: Path>(self, alloc: Global) -> Result<PathsBuilder, AllocError>
-        ensures put { IfOk result (λ b. (item : PathItem) × IsItemOf P.listed P.described item
+        ensures put { IfOk result (λ b. (item : PathItem) × IsItemOf P.listed P.IsDescribed item
             × IsItemPut P.named item (built_paths self).paths (built_paths b).paths) }
         ensures extensions { IfOk result (λ b. (built_paths b).extensions ≡ (built_paths self).extensions) }
         ensures ordered { IfOk result (λ b. ArePathsInOrder (paths_doc (built_paths self)) → ArePathsInOrder (paths_doc (built_paths b))) }

@@ -17,8 +17,8 @@ pub trait Path {
     // The path.
     ghost named: { List ℕ };
 
-    // The operation.
-    ghost described: { Doc };
+    // What the operation is like.
+    ghost IsDescribed: { Doc → Type 0 };
 
     /// The methods of the operation. Fails where memory runs out.
     fn methods(alloc: Global) -> Result<Vec<HttpMethod>, AllocError>
@@ -30,12 +30,12 @@ pub trait Path {
 
     /// The operation. Fails where memory runs out.
     fn operation(alloc: Global) -> Result<Operation, AllocError>
-        ensures { IfOk result (λ operation. operation_doc operation ≡ described) };
+        ensures { IfOk result (λ operation. IsDescribed (operation_doc operation)) };
 }
 
 /// A new item with the operation of a type under each of its methods. Fails where memory runs out.
 pub(crate) fn item_from<P: Path>(alloc: Global) -> Result<PathItem, AllocError>
-    ensures item { IfOk result (λ item. IsItemOf P.listed P.described item) }
+    ensures item { IfOk result (λ item. IsItemOf P.listed P.IsDescribed item) }
     ensures ordered { IfOk result IsItemInOrder }
 {
     let methods = P::methods(alloc)?;
