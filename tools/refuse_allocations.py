@@ -99,6 +99,13 @@ CASES = [
     ("merge-pairs ", 6, ["refused: memory"]),
     # Nests a document. The composer of paths takes memory too, and where that is refused it refuses the path.
     ("composed ", 6, ["refused: memory", "refused: composer", "no tree"]),
+    # Put what a type makes.
+    ("path-from ", 3, ["refused: memory"]),
+    ("parameters-in ", 1, []),
+    ("operation-of ", 1, []),
+    ("openapi-of ", 1, []),
+    ("responses-from ", 1, ["refused: memory"]),
+    ("component-from ", 1, ["refused: memory", "refused: out of memory"]),
 ]
 
 # What a program of cases says on standard error, with status 1, where its own reading or writing of lines was refused memory.

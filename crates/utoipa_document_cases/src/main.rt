@@ -17,6 +17,12 @@
 //! | `merge-pairs SIDE` | a JSON text, a list | the same, merged pair by pair: `left` begins with the first two, `right` with the last two |
 //! | `composed RULE` | two JSON texts, a tab between | what the first document is written as, once the second is nested into it at the base `/v1`, where the composer answers each path by the rule: `fixed` by `/x`, `empty` by the empty text, `turned` by the path and then the base; `refuses` refuses each |
 //! | `add PATH` | three JSON texts, a tab between each: paths, a list of methods, an operation | what the paths are written as, once a copy of the operation was put at each of the methods of PATH |
+//! | `path-from TYPE` | a JSON text | what the paths are written as, once the operation of the type was put at its path |
+//! | `parameters-in PLACE` | nothing | what the parameter of a type is written as in a list, where its provider answers that place, or `none` |
+//! | `operation-of TYPE` | nothing | what the operation of the type is written as, with its tags |
+//! | `openapi-of TYPE` | nothing | what the document of the type is written as, with its tags |
+//! | `responses-from TYPE` | a JSON text | what the responses are written as, once those of the type were put |
+//! | `component-from TYPE` | a JSON text | what the components are written as, once the schema or the response of the type was put |
 //! | `callbacks` | a number | `true`, where an operation in so many callbacks, one in the other, is kept |
 //!
 //! A value that prints another text than that of the tree that it is written as is told so, as `printed otherwise`, and that
@@ -26,6 +32,7 @@
 mod documents;
 mod extended;
 mod extensions;
+mod made;
 mod merged;
 mod nested;
 mod types;
@@ -61,6 +68,18 @@ fn answer_to_call(alloc: Global, call: &Call<'_>) -> Result<String, AllocError> 
         "composed" => documents::nested_by_rule(alloc, call.subject(), call.given),
         "add" => merged::with_operation(alloc, call.subject(), call.given),
         "callbacks" => nested::callbacks_kept(alloc, call.given),
+        _ => answer_by_type(alloc, call),
+    }
+}
+
+fn answer_by_type(alloc: Global, call: &Call<'_>) -> Result<String, AllocError> {
+    match call.name {
+        "path-from" => made::with_path_of(alloc, call.subject(), call.given),
+        "parameters-in" => made::parameters_in(alloc, call.subject()),
+        "operation-of" => made::operation_of_type(alloc, call.subject()),
+        "openapi-of" => made::document_of_type(alloc, call.subject()),
+        "responses-from" => made::with_responses_of(alloc, call.subject(), call.given),
+        "component-from" => made::with_component_of(alloc, call.subject(), call.given),
         _ => answer_to_question(alloc, call),
     }
 }

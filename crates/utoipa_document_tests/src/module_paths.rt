@@ -2,7 +2,17 @@
 //! that this is checked says that each path stands.
 
 pub mod utoipa_root {
-    pub use utoipa::{Counted, Number, ReadFault, Readings, Tree, has_fraction, same_tree};
+    pub use utoipa::{
+        ComposeFault, Counted, IntoParams, IntoResponses, Modify, Number, OpenApi, PartialSchema,
+        Path, ReadFault, Readings, ToResponse, ToSchema, Tree, TupleUnit, has_fraction, openapi_of,
+        operation_of, same_tree, schema_of,
+    };
+}
+
+pub mod __dev {
+    pub use utoipa::__dev::{
+        ComposeSchema, NestedApiConfig, PathConfig, SchemaReferences, Tags,
+    };
 }
 
 pub mod openapi {
