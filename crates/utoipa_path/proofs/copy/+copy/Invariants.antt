@@ -13,11 +13,14 @@ use Rattle.utoipa_path.proofs.copy.+copy.Given as goal
 abbrev pub decreases-clone_operation : goal.decreases-clone_operation
 decreases-clone_operation l = 4 * weight (operation_doc l.operation.now) + 0
 
-abbrev pub decreases-clone_path_item : goal.decreases-clone_path_item
-decreases-clone_path_item l = 4 * weight (path_item_doc l.item.now) + 0
+abbrev pub decreases-copy_path_item : goal.decreases-copy_path_item
+decreases-copy_path_item l = 4 * weight (path_item_doc l.item.now) + 0
 
-abbrev pub decreases-clone_ref_or_path_item : goal.decreases-clone_ref_or_path_item
-decreases-clone_ref_or_path_item l = 4 * weight (ref_or_doc (named path_item_object) path_item_doc l.place.now) + 0
+abbrev pub decreases-clone_boxed_path_item : goal.decreases-clone_boxed_path_item
+decreases-clone_boxed_path_item l = 4 * weight (path_item_doc l.item.now) + 1
+
+abbrev pub decreases-put_ref_or_path_item : goal.decreases-put_ref_or_path_item
+decreases-put_ref_or_path_item l = 4 * weight (ref_or_doc (named path_item_object) path_item_doc l.place.now) + 0
 
 abbrev pub decreases-clone_callback : goal.decreases-clone_callback
 decreases-clone_callback l = 4 * weight (callback_doc l.callback.now) + 0
@@ -31,11 +34,11 @@ decreases-clone_callback_map l = 4 * weight (callbacks_doc l.callbacks.now) + 0
 abbrev pub decreases-clone_operation_map : goal.decreases-clone_operation_map
 decreases-clone_operation_map l = 4 * weight (map_of_docs operation_doc l.operations.now) + 0
 
-abbrev pub decreases-clone_method : goal.decreases-clone_method
-decreases-clone_method l = 4 * weight (option_of operation_doc l.method.now) + 1
+abbrev pub decreases-copy_method : goal.decreases-copy_method
+decreases-copy_method l = 4 * weight (option_of operation_doc l.method.now) + 1
 
-abbrev pub decreases-clone_operations : goal.decreases-clone_operations
-decreases-clone_operations l = 4 * docs_weight (operations_of operation_doc (out-PathItem l.item.now)) + 2
+abbrev pub decreases-copy_operations : goal.decreases-copy_operations
+decreases-copy_operations l = 4 * docs_weight (operations_of operation_doc (out-PathItem l.item.now)) + 2
 
 abbrev pub invariant-clone_callback-loop-key : goal.invariant-clone_callback-loop-key
 invariant-clone_callback-loop-key l = MapCopied (ref_or_doc (named path_item_object) path_item_doc) l.callback.entries l.key-iterator l.map.entries
