@@ -8,14 +8,13 @@ ghost use Rattle.utoipa_merging.specs.Slots.{field_at};
 
 use std::alloc::{AllocError, Global};
 use std::borrow::CowStr;
-use utoipa::openapi;
 use utoipa::openapi::path::{HttpMethod, Operation, OperationBuilder};
 use utoipa::openapi::response::ResponseExt;
 use utoipa::openapi::{
     Components, ComponentsBuilder, Info, ObjectBuilder, OpenApiBuilder, PathsBuilder, RefOr,
     Response, Schema,
 };
-use utoipa::{ComposeFault, OpenApi, PartialSchema, Path, ToSchema};
+use utoipa::{ComposeFault, OpenApi, PartialSchema, Path, ToSchema, openapi};
 
 /// A pet.
 pub struct Pet {
@@ -94,11 +93,13 @@ impl OpenApi for Pets {
         let version = String::from_str(alloc, "1.0.0")?;
         let paths = PathsBuilder::new(alloc).path_from::<LookUp>(alloc)?;
         let components = components(alloc)?;
-        Ok(OpenApiBuilder::new(alloc)
-            .info(Info::new(title, version))
-            .paths(paths.build())
-            .components(Some(components))
-            .build())
+        Ok(
+            OpenApiBuilder::new(alloc)
+                .info(Info::new(title, version))
+                .paths(paths.build())
+                .components(Some(components))
+                .build(),
+        )
     }
 }
 

@@ -5,8 +5,7 @@ mod document;
 
 use document::Pets;
 use std::io;
-use utoipa::OpenApi;
-use utoipa::openapi;
+use utoipa::{OpenApi, openapi};
 
 fn main(rt: HostRuntime) -> io::Result<()> {
     let built = Pets::openapi(rt.alloc())?;

@@ -1,9 +1,12 @@
 //! Operations and documents of types that say tags beside those of the operations.
-ghost use Rattle.std.specs.Prelude.{◌≡◌, ◌++◌, IfOk, OnOk, map, string_bytes};
+ghost use Rattle.std.specs.Prelude.{◌≡◌, ◌++◌, Option, IfOk, OnOk, map, string_bytes};
 ghost use Rattle.utoipa_base.specs.Docs.{Doc};
 ghost use Rattle.utoipa_base.specs.Views.{option_of};
 ghost use Rattle.utoipa_path.specs.Docs.{operation_doc, path_item_doc};
 ghost use Rattle.utoipa_path.specs.Lists.{items_if_any};
+ghost use Rattle.utoipa_path.specs.Methods.{operation_at, with_method};
+ghost use Rattle.utoipa_path.specs.declared.types.Operation.{Operation};
+ghost use Rattle.utoipa_path.specs.declared.types.PathItem.{out-PathItem};
 ghost use Rattle.utoipa.specs.OpenApi.{openapi_doc};
 ghost use Rattle.utoipa.specs.Tags.{texts_of, or_module, with_tags, nested_operation, nested_item, nested_openapi, in_option, item_entries, change_entries};
 
@@ -13,6 +16,8 @@ use std::alloc::{AllocError, Global};
 use std::collections::BTreeMap;
 use std::mem;
 use utoipa_base::put;
+use utoipa_leaf::path::HttpMethod;
+use utoipa_path::methods::replace_operation;
 use utoipa_path::{Operation, PathItem};
 use utoipa_paths::PathsMap;
 
@@ -73,30 +78,34 @@ fn tag_item(
 ) -> Result<(), AllocError>
     ensures { OnOk result (path_item_doc item.new ≡ nested_item (texts_of tags.now.items) module_path.now (path_item_doc item.old)) }
 {
-    tag_method(&mut item.get, alloc, tags, module_path)?;
-    tag_method(&mut item.put, alloc, tags, module_path)?;
-    tag_method(&mut item.post, alloc, tags, module_path)?;
-    tag_method(&mut item.delete, alloc, tags, module_path)?;
-    tag_method(&mut item.options, alloc, tags, module_path)?;
-    tag_method(&mut item.head, alloc, tags, module_path)?;
-    tag_method(&mut item.patch, alloc, tags, module_path)?;
-    tag_method(&mut item.trace, alloc, tags, module_path)
+    tag_method(item, alloc, HttpMethod::Get, tags, module_path)?;
+    tag_method(item, alloc, HttpMethod::Put, tags, module_path)?;
+    tag_method(item, alloc, HttpMethod::Post, tags, module_path)?;
+    tag_method(item, alloc, HttpMethod::Delete, tags, module_path)?;
+    tag_method(item, alloc, HttpMethod::Options, tags, module_path)?;
+    tag_method(item, alloc, HttpMethod::Head, tags, module_path)?;
+    tag_method(item, alloc, HttpMethod::Patch, tags, module_path)?;
+    tag_method(item, alloc, HttpMethod::Trace, tags, module_path)
 }
 
-/// Adds further tags to the operation of a method, if there is one. Fails where memory runs out.
+/// Adds further tags to the operation of a method, if there is one. Fails where memory runs out, and then gives it up.
 fn tag_method(
-    method: &mut Option<Operation>,
+    item: &mut PathItem,
     alloc: Global,
+    method: HttpMethod,
     tags: &Vec<&'static str>,
     module_path: &str,
 ) -> Result<(), AllocError>
-    ensures { OnOk result (option_of operation_doc method.new
-        ≡ in_option (nested_operation (texts_of tags.now.items) module_path.now) (option_of operation_doc method.old)) }
+    ensures { OnOk result ((operation : Option Operation)
+        × (option_of operation_doc operation ≡ in_option (nested_operation (texts_of tags.now.items) module_path.now) (option_of operation_doc (operation_at method (out-PathItem item.old))))
+        × (out-PathItem item.new ≡ with_method method operation (out-PathItem item.old))) }
 {
-    match method {
-        Some(operation) => tag_operation(operation, alloc, tags, module_path),
-        None => Ok(()),
+    if let Some(operation) = replace_operation(item, method, None) {
+        let mut operation = operation;
+        tag_operation(&mut operation, alloc, tags, module_path)?;
+        drop(replace_operation(item, method, Some(operation)));
     }
+    Ok(())
 }
 
 /// Adds further tags to an operation; where it has none then, the path of the module, unless it is empty. Fails where memory runs out,

@@ -1,10 +1,10 @@
 //! The schemas that types are composed to.
-ghost use Rattle.std.specs.Prelude.{◌≡◌, IfOk, OnOk, OnErr, IfErr, Some, None};
+ghost use Rattle.std.specs.Prelude.{◌≡◌, IfOk, IfErr, Some, None};
 ghost use Rattle.utoipa_base.specs.Numbers.{number_doc};
 ghost use Rattle.utoipa_base.specs.Views.{option_of};
 ghost use Rattle.utoipa_compose.specs.Compositions.{place_doc, map_by, own_schema};
 ghost use Rattle.utoipa_compose.specs.Made.{typed as typed_doc, integer as integer_doc, nullable as nullable_doc, array_of, anything as anything_doc, nothing as nothing_doc};
-ghost use Rattle.utoipa_compose.specs.declared.fault.ComposeFault.TheVariants.{KeyIsReference, Memory};
+ghost use Rattle.utoipa_compose.specs.declared.fault.ComposeFault.TheVariants.{KeyIsReference};
 ghost use Rattle.utoipa_schema_parts.specs.Format.{known_format_doc, schema_format_doc};
 
 use crate::fault::ComposeFault;

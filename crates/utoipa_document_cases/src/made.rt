@@ -112,7 +112,10 @@ impl IntoParams for Limit {
 /// What the parameters of the type are written as, where the provider answers that place, or `none`.
 pub fn parameters_in(alloc: Global, place: &str) -> Result<String, AllocError> {
     match place {
-        "query" => printed(alloc, &Limit::into_params(alloc, || Some(ParameterIn::Query))?),
+        "query" => printed(
+            alloc,
+            &Limit::into_params(alloc, || Some(ParameterIn::Query))?,
+        ),
         "none" => printed(alloc, &Limit::into_params(alloc, || None)?),
         _ => String::from_str(alloc, "no such place"),
     }
@@ -320,9 +323,7 @@ pub fn with_component_of(alloc: Global, name: &str, text: &str) -> Result<String
                     Ok(built) => printed(alloc, &built.build()),
                     Err(fault) => format!(in alloc; "refused: {fault}"),
                 },
-                "NotFound" => {
-                    printed(alloc, &builder.response_from::<NotFound>(alloc)?.build())
-                }
+                "NotFound" => { printed(alloc, &builder.response_from::<NotFound>(alloc)?.build()) }
                 _ => String::from_str(alloc, "no such type"),
             }
         }

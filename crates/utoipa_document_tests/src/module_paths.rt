@@ -10,9 +10,7 @@ pub mod utoipa_root {
 }
 
 pub mod __dev {
-    pub use utoipa::__dev::{
-        ComposeSchema, NestedApiConfig, PathConfig, SchemaReferences, Tags,
-    };
+    pub use utoipa::__dev::{ComposeSchema, NestedApiConfig, PathConfig, SchemaReferences, Tags};
 }
 
 pub mod openapi {

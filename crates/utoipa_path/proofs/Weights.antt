@@ -2,8 +2,11 @@
 use Rattle.std.proofs.Common.{◌<◌, ◌≤◌, arith, ap}
 use Rattle.utoipa_base.specs.Views.{option_of, map_of_docs}
 use Rattle.utoipa_base.proofs.Weights.{weight, docs_weight}
+use Rattle.utoipa_leaf.specs.declared.path.HttpMethod.{HttpMethod}
+use Rattle.utoipa_leaf.specs.declared.path.HttpMethod.TheVariants.{Get, Post, Put, Delete, Options, Head, Patch, Trace}
 use Rattle.utoipa_path.specs.Docs.{operations_of, operation_layer, operation_doc, path_item_doc, callbacks_doc}
 use Rattle.utoipa_path.specs.Folds.{operation_is}
+use Rattle.utoipa_path.specs.Methods.{operation_at}
 use Rattle.utoipa_path.specs.declared.types.Operation.{Operation, out-Operation}
 use Rattle.utoipa_path.specs.declared.types.PathItem.{PathItem, out-PathItem}
 
@@ -33,6 +36,17 @@ pub among_operations : (i : PathItem) → (weight (option_of operation_doc (out-
     × (weight (map_of_docs operation_doc (out-PathItem i).additional_operations) ≤ docs_weight (operations_of operation_doc (out-PathItem i)))
 unfolding docs_weight
 among_operations i = (omega arith, omega arith, omega arith, omega arith, omega arith, omega arith, omega arith, omega arith, omega arith, omega arith)
+
+-- the operation of a method
+pub among_methods : (m : HttpMethod) (i : PathItem) → weight (option_of operation_doc (operation_at m (out-PathItem i))) ≤ docs_weight (operations_of operation_doc (out-PathItem i))
+among_methods Get i = (among_operations i).0
+among_methods Put i = (among_operations i).1
+among_methods Post i = (among_operations i).2
+among_methods Delete i = (among_operations i).3
+among_methods Options i = (among_operations i).4
+among_methods Head i = (among_operations i).5
+among_methods Patch i = (among_operations i).6
+among_methods Trace i = (among_operations i).7
 
 -- and so each of them is lighter than the path item
 pub held_by_path_item : (i : PathItem) → (weight (option_of operation_doc (out-PathItem i).get) < weight (path_item_doc i))

@@ -19,16 +19,20 @@ operation_at Head i = i.head
 operation_at Patch i = i.patch
 operation_at Trace i = i.trace
 
+-- the item, with this operation of a method, or none
+abbrev pub with_method : HttpMethod → Option Operation → PathItemFields → PathItemFields
+with_method Get o i = record i { get = o }
+with_method Post o i = record i { post = o }
+with_method Put o i = record i { put = o }
+with_method Delete o i = record i { delete = o }
+with_method Options o i = record i { options = o }
+with_method Head o i = record i { head = o }
+with_method Patch o i = record i { patch = o }
+with_method Trace o i = record i { trace = o }
+
 -- the item, with this operation of a method
 abbrev pub with_operation : HttpMethod → Operation → PathItemFields → PathItemFields
-with_operation Get o i = record i { get = Some o }
-with_operation Post o i = record i { post = Some o }
-with_operation Put o i = record i { put = Some o }
-with_operation Delete o i = record i { delete = Some o }
-with_operation Options o i = record i { options = Some o }
-with_operation Head o i = record i { head = Some o }
-with_operation Patch o i = record i { patch = Some o }
-with_operation Trace o i = record i { trace = Some o }
+with_operation m o i = with_method m (Some o) i
 
 -- the item but for the operations of the methods that `HttpMethod` names
 abbrev pub without_methods : PathItemFields → PathItemFields

@@ -3,7 +3,7 @@
 //! The functions of the cycle copy what holds operations or path items; the members that hold none are copied outside of it. A path
 //! item is large, so it is copied in place, and on the heap while operations inside of it are copied: a level of path items takes
 //! no room for one on the stack.
-ghost use Rattle.std.specs.Prelude.{◌≡◌, IfOk, OnOk, string_cmp};
+ghost use Rattle.std.specs.Prelude.{◌≡◌, Option, IfOk, OnOk, option_map, string_cmp};
 ghost use Rattle.std.specs.BTreeMap.{insert_entry};
 ghost use Rattle.utoipa_base.specs.Kinds.{path_item_object, named};
 ghost use Rattle.utoipa_base.specs.Refs.{ref_or_doc};
@@ -12,16 +12,19 @@ ghost use Rattle.utoipa_base.specs.Views.{option_of, map_of_docs};
 ghost use Rattle.utoipa_base.specs.declared.refs.RefOr.{RefOr};
 ghost use Rattle.utoipa_base.specs.declared.refs.RefOr.TheVariants as places;
 ghost use Rattle.utoipa_path.specs.Docs.{operation_doc, path_item_doc, callback_doc, callbacks_doc, operations_of};
-ghost use Rattle.utoipa_path.specs.Methods.{IsEmptyPathItem};
-ghost use Rattle.utoipa_path.specs.declared.types.Operation.{out-Operation};
+ghost use Rattle.utoipa_path.specs.Builders.{Operations};
+ghost use Rattle.utoipa_path.specs.Methods.{operation_at, with_method, IsEmptyPathItem};
+ghost use Rattle.utoipa_path.specs.declared.types.Operation.{Operation, out-Operation};
 ghost use Rattle.utoipa_path.specs.declared.types.PathItem.{PathItem, out-PathItem};
 
+use crate::methods::{operation_of, replace_operation};
 use crate::path_item::empty_path_item;
 use crate::types::{Callback, Operation, PathItem};
 use std::alloc::{AllocError, Global};
 use std::collections::BTreeMap;
 use std::mem;
 use utoipa_base::{Ref, RefOr, Tree, clone_extensions, clone_option};
+use utoipa_leaf::path::HttpMethod;
 
 /// Copies an operation. Fails where memory runs out.
 #[cycle(copy)]
@@ -140,49 +143,69 @@ fn clone_operation_map(
     Ok(map)
 }
 
-/// Makes the operation of a method a copy of another, if there is one. Fails where memory runs out, and then nothing has changed.
+/// Copies an operation, if there is one. Fails where memory runs out.
 #[cycle(copy)]
-fn copy_method(
-    copy: &mut Option<Operation>,
-    alloc: Global,
-    method: &Option<Operation>,
-) -> Result<(), AllocError>
-    ensures { OnOk result (option_of operation_doc copy.new ≡ option_of operation_doc method.now) }
+fn clone_method(alloc: Global, method: Option<&Operation>) -> Result<Option<Operation>, AllocError>
+    ensures { IfOk result (λ copy. option_of operation_doc copy ≡ option_of operation_doc (option_map (λ o. o.now) method)) }
 {
     match method {
-        Some(operation) => replace(copy, Some(clone_operation(alloc, operation)?)),
-        None => replace(copy, None),
+        Some(operation) => Ok(Some(clone_operation(alloc, operation)?)),
+        None => Ok(None),
     }
+}
+
+/// Makes the operation of a method a copy of that of another path item, which may have none. Fails where memory runs out, and then
+/// nothing has changed.
+#[cycle(copy)]
+fn copy_method(
+    copy: &mut PathItem,
+    alloc: Global,
+    item: &PathItem,
+    method: HttpMethod,
+) -> Result<(), AllocError>
+    ensures { OnOk result ((operation : Option Operation)
+        × (option_of operation_doc operation ≡ option_of operation_doc (operation_at method (out-PathItem item.now)))
+        × (out-PathItem copy.new ≡ with_method method operation (out-PathItem copy.old))) }
+{
+    let operation = clone_method(alloc, operation_of(item, method))?;
+    drop(replace_operation(copy, method, operation));
     Ok(())
 }
 
-/// Makes the operations of a path item copies of those of another. Fails where memory runs out, and then some were copied.
+/// Makes the operations of further methods copies of those of another path item. Fails where memory runs out, and then some may be.
 #[cycle(copy)]
-fn copy_operations(copy: &mut PathItem, alloc: Global, item: &PathItem) -> Result<(), AllocError>
-    ensures { OnOk result (operations_of operation_doc (out-PathItem copy.new)
-        ≡ operations_of operation_doc (out-PathItem item.now)) }
+fn copy_further_methods(
+    copy: &mut PathItem,
+    alloc: Global,
+    item: &PathItem,
+) -> Result<(), AllocError>
+    ensures { OnOk result ((query : Option Operation) × (additional : Operations)
+        × (option_of operation_doc query ≡ option_of operation_doc (out-PathItem item.now).query)
+        × (map_of_docs operation_doc additional ≡ map_of_docs operation_doc (out-PathItem item.now).additional_operations)
+        × (out-PathItem copy.new ≡ record (out-PathItem copy.old) { query = query; additional_operations = additional })) }
 {
-    copy_method(&mut copy.get, alloc, &item.get)?;
-    copy_method(&mut copy.put, alloc, &item.put)?;
-    copy_method(&mut copy.post, alloc, &item.post)?;
-    copy_method(&mut copy.delete, alloc, &item.delete)?;
-    copy_method(&mut copy.options, alloc, &item.options)?;
-    copy_method(&mut copy.head, alloc, &item.head)?;
-    copy_method(&mut copy.patch, alloc, &item.patch)?;
-    copy_method(&mut copy.trace, alloc, &item.trace)?;
-    copy_method(&mut copy.query, alloc, &item.query)?;
+    let query = clone_method(alloc, item.query.as_ref())?;
+    drop(mem::replace(&mut copy.query, query));
     let additional = clone_operation_map(alloc, &item.additional_operations)?;
     drop(mem::replace(&mut copy.additional_operations, additional));
     Ok(())
 }
 
-/// Sets the operation of a method, or that there is none.
-// Not inlined: two operations need not stand on the stack while one inside is copied.
-#[inline(never)]
-fn replace(field: &mut Option<Operation>, operation: Option<Operation>)
-    ensures { field.new ≡ operation }
+/// Makes the operations of a path item copies of those of another. Fails where memory runs out, and then some may be.
+#[cycle(copy)]
+fn copy_operations(copy: &mut PathItem, alloc: Global, item: &PathItem) -> Result<(), AllocError>
+    ensures { OnOk result (operations_of operation_doc (out-PathItem copy.new)
+        ≡ operations_of operation_doc (out-PathItem item.now)) }
 {
-    drop(mem::replace(field, operation));
+    copy_method(copy, alloc, item, HttpMethod::Get)?;
+    copy_method(copy, alloc, item, HttpMethod::Put)?;
+    copy_method(copy, alloc, item, HttpMethod::Post)?;
+    copy_method(copy, alloc, item, HttpMethod::Delete)?;
+    copy_method(copy, alloc, item, HttpMethod::Options)?;
+    copy_method(copy, alloc, item, HttpMethod::Head)?;
+    copy_method(copy, alloc, item, HttpMethod::Patch)?;
+    copy_method(copy, alloc, item, HttpMethod::Trace)?;
+    copy_further_methods(copy, alloc, item)
 }
 
 /// A path item on the heap, of which nothing is said. Fails where memory runs out.
@@ -267,7 +290,8 @@ fn clone_operation_with(
     })
 }
 
-/// Makes a path item that has copies of the operations of another a copy of it. Fails where memory runs out, and then some was copied.
+/// Makes a path item that has copies of the operations of another a copy of it. Fails where memory runs out, and then gives up the
+/// copies.
 #[inline(never)]
 fn copy_beside_operations(
     copy: &mut PathItem,
@@ -278,11 +302,29 @@ fn copy_beside_operations(
         ≡ operations_of operation_doc (out-PathItem item.now)
         → path_item_doc copy.new ≡ path_item_doc item.now) }
 {
-    copy.ref_path = clone_option(alloc, &item.ref_path)?;
-    copy.summary = clone_option(alloc, &item.summary)?;
-    copy.description = clone_option(alloc, &item.description)?;
-    copy.servers = clone_option(alloc, &item.servers)?;
-    copy.parameters = clone_option(alloc, &item.parameters)?;
-    copy.extensions = clone_extensions(alloc, &item.extensions)?;
+    let operations = mem::replace(copy, empty_path_item(alloc));
+    let whole = clone_path_item_with(alloc, item, operations)?;
+    drop(mem::replace(copy, whole));
     Ok(())
+}
+
+/// Copies a path item, whose operations have been copied. Fails where memory runs out.
+fn clone_path_item_with(
+    alloc: Global,
+    item: &PathItem,
+    operations: PathItem,
+) -> Result<PathItem, AllocError>
+    ensures { IfOk result (λ copy. operations_of operation_doc (out-PathItem operations)
+        ≡ operations_of operation_doc (out-PathItem item.now)
+        → path_item_doc copy ≡ path_item_doc item.now) }
+{
+    Ok(PathItem {
+        ref_path: clone_option(alloc, &item.ref_path)?,
+        summary: clone_option(alloc, &item.summary)?,
+        description: clone_option(alloc, &item.description)?,
+        servers: clone_option(alloc, &item.servers)?,
+        parameters: clone_option(alloc, &item.parameters)?,
+        extensions: clone_extensions(alloc, &item.extensions)?,
+        ..operations
+    })
 }

@@ -1,8 +1,8 @@
 //! The operations of a path item by their HTTP methods.
-ghost use Rattle.std.specs.Prelude.{◌≡◌, Some, option_map};
+ghost use Rattle.std.specs.Prelude.{◌≡◌, option_map};
 ghost use Rattle.std.specs.Option.{option_or};
 ghost use Rattle.utoipa_leaf.specs.declared.path.HttpMethod.{HttpMethod};
-ghost use Rattle.utoipa_path.specs.Methods.{operation_at, with_operation, without_methods, replaced, filled};
+ghost use Rattle.utoipa_path.specs.Methods.{operation_at, with_method, with_operation, without_methods, replaced, filled};
 ghost use Rattle.utoipa_path.specs.declared.types.PathItem.{out-PathItem};
 
 use crate::path_item::empty_path_item;
@@ -27,20 +27,34 @@ pub fn operation_of(item: &PathItem, method: HttpMethod) -> Option<&Operation>
     }
 }
 
+/// Sets the operation of a method, or that there is none, and answers the one that stood there. All else stays as it is.
+// Not inlined: where items hold each other, its room on the stack is not needed while one inside is copied.
+#[inline(never)]
+pub fn replace_operation(
+    item: &mut PathItem,
+    method: HttpMethod,
+    operation: Option<Operation>,
+) -> Option<Operation>
+    ensures before { result ≡ operation_at method (out-PathItem item.old) }
+    ensures after { out-PathItem item.new ≡ with_method method operation (out-PathItem item.old) }
+{
+    match method {
+        HttpMethod::Get => mem::replace(&mut item.get, operation),
+        HttpMethod::Post => mem::replace(&mut item.post, operation),
+        HttpMethod::Put => mem::replace(&mut item.put, operation),
+        HttpMethod::Delete => mem::replace(&mut item.delete, operation),
+        HttpMethod::Options => mem::replace(&mut item.options, operation),
+        HttpMethod::Head => mem::replace(&mut item.head, operation),
+        HttpMethod::Patch => mem::replace(&mut item.patch, operation),
+        HttpMethod::Trace => mem::replace(&mut item.trace, operation),
+    }
+}
+
 /// Sets the operation of a method, in place of an earlier one.
 pub(crate) fn set_operation(item: &mut PathItem, method: HttpMethod, operation: Operation)
     ensures { out-PathItem item.new ≡ with_operation method operation (out-PathItem item.old) }
 {
-    match method {
-        HttpMethod::Get => set(&mut item.get, operation),
-        HttpMethod::Post => set(&mut item.post, operation),
-        HttpMethod::Put => set(&mut item.put, operation),
-        HttpMethod::Delete => set(&mut item.delete, operation),
-        HttpMethod::Options => set(&mut item.options, operation),
-        HttpMethod::Head => set(&mut item.head, operation),
-        HttpMethod::Patch => set(&mut item.patch, operation),
-        HttpMethod::Trace => set(&mut item.trace, operation),
-    }
+    drop(replace_operation(item, method, Some(operation)));
 }
 
 /// Takes the operations of another item that stand at methods of [`HttpMethod`], in place of earlier ones. All else stays as it is.
@@ -86,11 +100,4 @@ pub(crate) fn with_missing_of(item: PathItem, other: PathItem) -> PathItem
         query: item.query.or(other.query),
         ..item
     }
-}
-
-// An assignment would drop the old operation where it stands, for which the check writes no proof.
-fn set(field: &mut Option<Operation>, operation: Operation)
-    ensures { field.new ≡ Some operation }
-{
-    drop(mem::replace(field, Some(operation)));
 }

@@ -1,5 +1,5 @@
 -- The answers of the functions that copy operations, path items and callbacks.
-use Rattle.std.proofs.Common.{◌≡◌, ◌∙◌, ◌∷◌, ◌++◌, None, String, Global, refl, sym, ap, arith, rules}
+use Rattle.std.proofs.Common.{◌≡◌, ◌∙◌, ◌∷◌, ◌++◌, Option, option_map, String, Global, refl, sym, ap, arith, rules}
 use Rattle.std.proofs.lemmas.Result.{IfOk-weaker, on_ok_weaker}
 use Rattle.utoipa_base.specs.Docs.{some_doc, own_doc, ref_doc}
 use Rattle.utoipa_base.specs.Kinds.{named, path_item_object}
@@ -12,9 +12,12 @@ use Rattle.utoipa_base.proofs.TableParts.{same_field}
 use Rattle.utoipa_base.proofs.Weights.{weight, lighter_member, lighter_some, lighter_own}
 use Rattle.utoipa_base.proofs.WritingMaps.{copied_begun, copied_step, copied_map}
 use Rattle.utoipa_path.specs.Docs.{CallbackOf, operation_doc, path_item_doc, callback_doc, operations_of}
+use Rattle.utoipa_leaf.specs.declared.path.HttpMethod.TheVariants.{Get, Post, Put, Delete, Options, Head, Patch, Trace}
+use Rattle.utoipa_path.specs.Builders.{PathItemFields, Operations}
+use Rattle.utoipa_path.specs.Methods.{with_method}
 use Rattle.utoipa_path.specs.declared.types.Operation.{Operation}
-use Rattle.utoipa_path.specs.declared.types.PathItem.{PathItem, PathItem-F, out-roll-PathItem}
-use Rattle.utoipa_path.proofs.Weights.{held_by_operation, lighter_operations, among_operations}
+use Rattle.utoipa_path.specs.declared.types.PathItem.{PathItem}
+use Rattle.utoipa_path.proofs.Weights.{held_by_operation, lighter_operations, among_operations, among_methods}
 use Rattle.utoipa_path.proofs.copy.+copy.Goals as goal
 
 pub clone_operation-clone_callback_map-requires : goal.clone_operation-clone_callback_map-requires
@@ -109,35 +112,52 @@ clone_operation_map-loop-key-preserved t c = copied_step operation_doc _ _ _ _ _
 pub clone_operation_map-returns : goal.clone_operation_map-returns
 clone_operation_map-returns t c = copied_map operation_doc c.args.operations.now c.loop-key.map _ c.loop-key.invariant c.in-None.ensures.steps.0
 
-pub copy_method-clone_operation-requires : goal.copy_method-clone_operation-requires
-copy_method-clone_operation-requires t c = (omega (arith, ap (λ o. weight (option_of operation_doc o)) c.in-Some.is, lighter_some (operation_doc c.in-Some.operation)), tt)
+pub clone_method-clone_operation-requires : goal.clone_method-clone_operation-requires
+clone_method-clone_operation-requires t c = (omega (arith, ap (λ o. weight (option_of operation_doc (option_map (λ b. b.now) o))) c.in-Some.is, lighter_some (operation_doc c.in-Some.operation.now)), tt)
 
-pub copy_operations-copy_method-requires : goal.copy_operations-copy_method-requires
-copy_operations-copy_method-requires t c = (omega (arith, (among_operations c.args.item.now).0), tt)
+pub copy_method-clone_method-requires : goal.copy_method-clone_method-requires
+copy_method-clone_method-requires t c = (omega (arith, ap (λ o. weight (option_of operation_doc o)) c.operation_of.ensures, among_methods c.args.method c.args.item.now), tt)
 
-pub copy_operations-copy_method-requires-2 : goal.copy_operations-copy_method-requires-2
-copy_operations-copy_method-requires-2 t c = (omega (arith, (among_operations c.args.item.now).1), tt)
+pub copy_further_methods-clone_method-requires : goal.copy_further_methods-clone_method-requires
+copy_further_methods-clone_method-requires t c = (omega (arith, ap (λ o. weight (option_of operation_doc o)) c.as_ref.ensures, (among_operations c.args.item.now).8), tt)
 
-pub copy_operations-copy_method-requires-3 : goal.copy_operations-copy_method-requires-3
-copy_operations-copy_method-requires-3 t c = (omega (arith, (among_operations c.args.item.now).2), tt)
+pub copy_further_methods-clone_operation_map-requires : goal.copy_further_methods-clone_operation_map-requires
+copy_further_methods-clone_operation_map-requires t c = (omega (arith, (among_operations c.args.item.now).9), tt)
 
-pub copy_operations-copy_method-requires-4 : goal.copy_operations-copy_method-requires-4
-copy_operations-copy_method-requires-4 t c = (omega (arith, (among_operations c.args.item.now).3), tt)
-
-pub copy_operations-copy_method-requires-5 : goal.copy_operations-copy_method-requires-5
-copy_operations-copy_method-requires-5 t c = (omega (arith, (among_operations c.args.item.now).4), tt)
-
-pub copy_operations-copy_method-requires-6 : goal.copy_operations-copy_method-requires-6
-copy_operations-copy_method-requires-6 t c = (omega (arith, (among_operations c.args.item.now).5), tt)
-
-pub copy_operations-copy_method-requires-7 : goal.copy_operations-copy_method-requires-7
-copy_operations-copy_method-requires-7 t c = (omega (arith, (among_operations c.args.item.now).6), tt)
-
-pub copy_operations-copy_method-requires-8 : goal.copy_operations-copy_method-requires-8
-copy_operations-copy_method-requires-8 t c = (omega (arith, (among_operations c.args.item.now).7), tt)
-
-pub copy_operations-copy_method-requires-9 : goal.copy_operations-copy_method-requires-9
-copy_operations-copy_method-requires-9 t c = (omega (arith, (among_operations c.args.item.now).8), tt)
-
-pub copy_operations-clone_operation_map-requires : goal.copy_operations-clone_operation_map-requires
-copy_operations-clone_operation_map-requires t c = (omega (arith, (among_operations c.args.item.now).9), tt)
+pub copy_operations-returns : goal.copy_operations-returns
+copy_operations-returns t c =
+    let get = c.in_ok-copy_method.ensures in
+    let put = c.in_ok-copy_method-2.ensures in
+    let post = c.in_ok-copy_method-3.ensures in
+    let delete = c.in_ok-copy_method-4.ensures in
+    let options = c.in_ok-copy_method-5.ensures in
+    let head = c.in_ok-copy_method-6.ensures in
+    let patch = c.in_ok-copy_method-7.ensures in
+    let trace = c.in_ok-copy_method-8.ensures in
+    on_ok_weaker c.copy_further_methods.result
+    (λ further.
+    ap (operations_of operation_doc)
+    (further.4
+    ∙ ap (with_further further.0 further.1)
+    (trace.2
+    ∙ ap (with_method Trace trace.0)
+    (patch.2
+    ∙ ap (with_method Patch patch.0)
+    (head.2
+    ∙ ap (with_method Head head.0)
+    (options.2
+    ∙ ap (with_method Options options.0) (delete.2 ∙ ap (with_method Delete delete.0) (post.2 ∙ ap (with_method Post post.0) (put.2 ∙ ap (with_method Put put.0) get.2))))))))
+    ∙ (same_field _ _ _ _ get.1
+    (same_field _ _ _ _ put.1
+    (same_field _ _ _ _ post.1
+    (same_field _ _ _ _ delete.1
+    (same_field _ _ _ _ options.1
+    (same_field _ _ _ _ head.1
+    (same_field _ _ _ _ patch.1
+    (same_field _ _ _ _ trace.1
+    (same_field _ _ _ _ further.2
+    (same_field _ _ _ _ further.3 refl)))))))))))
+    c.copy_further_methods.ensures
+  where
+    with_further : Option Operation → Operations → PathItemFields → PathItemFields
+    with_further query additional i = record i { query = query; additional_operations = additional }

@@ -1,5 +1,5 @@
 -- The measures of the functions that copy operations and path items, and the invariants of their loops.
-use Rattle.std.proofs.Common.{◌+◌, ◌*◌}
+use Rattle.std.proofs.Common.{◌+◌, ◌*◌, option_map}
 use Rattle.utoipa_base.specs.Kinds.{named, path_item_object}
 use Rattle.utoipa_base.specs.Refs.{ref_or_doc}
 use Rattle.utoipa_base.specs.Tables.{callback}
@@ -34,11 +34,17 @@ decreases-clone_callback_map l = 4 * weight (callbacks_doc l.callbacks.now) + 0
 abbrev pub decreases-clone_operation_map : goal.decreases-clone_operation_map
 decreases-clone_operation_map l = 4 * weight (map_of_docs operation_doc l.operations.now) + 0
 
+abbrev pub decreases-clone_method : goal.decreases-clone_method
+decreases-clone_method l = 4 * weight (option_of operation_doc (option_map (λ o. o.now) l.method)) + 1
+
 abbrev pub decreases-copy_method : goal.decreases-copy_method
-decreases-copy_method l = 4 * weight (option_of operation_doc l.method.now) + 1
+decreases-copy_method l = 4 * docs_weight (operations_of operation_doc (out-PathItem l.item.now)) + 2
+
+abbrev pub decreases-copy_further_methods : goal.decreases-copy_further_methods
+decreases-copy_further_methods l = 4 * docs_weight (operations_of operation_doc (out-PathItem l.item.now)) + 2
 
 abbrev pub decreases-copy_operations : goal.decreases-copy_operations
-decreases-copy_operations l = 4 * docs_weight (operations_of operation_doc (out-PathItem l.item.now)) + 2
+decreases-copy_operations l = 4 * docs_weight (operations_of operation_doc (out-PathItem l.item.now)) + 3
 
 abbrev pub invariant-clone_callback-loop-key : goal.invariant-clone_callback-loop-key
 invariant-clone_callback-loop-key l = MapCopied (ref_or_doc (named path_item_object) path_item_doc) l.callback.entries l.key-iterator l.map.entries

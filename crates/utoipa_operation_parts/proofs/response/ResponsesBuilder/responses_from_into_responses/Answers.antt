@@ -10,6 +10,6 @@ returns g c = (
   responses_by_code c.in_ok-responses.field-0,
   c.in_ok-responses.ensures,
   ap (pairs_of response_place_doc) c.in_ok-put_responses.ensures
-  ∙ put_as_docs response_place_doc c.in_ok-responses.field-0.entries c.args.self.responses.responses.entries,
+      ∙ put_as_docs response_place_doc c.in_ok-responses.field-0.entries c.args.self.responses.responses.entries,
   refl,
 )
