@@ -11,10 +11,14 @@ use Rattle.utoipa_base.specs.Kinds.{operation_object}
 use Rattle.utoipa_base.specs.Views.{text_of, option_of, list_of_docs, pairs_of}
 use Rattle.utoipa_base.proofs.Maps.{texts, insert_last}
 use Rattle.utoipa_base.proofs.TableParts.{same_field, same_table}
+use Rattle.utoipa_leaf.specs.declared.path.HttpMethod.{HttpMethod}
+use Rattle.utoipa_leaf.specs.declared.path.HttpMethod.TheVariants.{Get, Post, Put, Delete, Options, Head, Patch, Trace}
 use Rattle.utoipa_merging.proofs.MapViews.{items_in-list}
+use Rattle.utoipa_path.specs.Builders.{PathItemFields}
 use Rattle.utoipa_path.specs.Docs.{operation_layer, operation_doc, path_item_doc}
 use Rattle.utoipa_path.specs.Folds.{operation_is}
 use Rattle.utoipa_path.specs.Lists.{items_if_any}
+use Rattle.utoipa_path.specs.Methods.{with_method}
 use Rattle.utoipa_path.specs.declared.types.Operation.{Operation, Operation-F, out-Operation}
 use Rattle.utoipa_path.specs.declared.types.PathItem.{PathItem}
 use Rattle.utoipa.specs.Tags.{text_in, texts_in, texts_doc, in_field, change_entries}
@@ -47,6 +51,19 @@ tags_changed change o new list is changed =
     operation_is new ∙ ap (operation_layer path_item_doc) is
     ∙ same_table operation_object _ _ _ _ (same_field _ _ _ _ changed refl) refl
     ∙ sym (ap (in_field (codes "tags") change) (operation_is o))
+
+-- ---- operations by their methods
+
+-- an operation that is set once more
+pub set_again : (m : HttpMethod) (o p : Option Operation) (i : PathItemFields) → with_method m o (with_method m p i) ≡ with_method m o i
+set_again Get o p i = refl
+set_again Post o p i = refl
+set_again Put o p i = refl
+set_again Delete o p i = refl
+set_again Options o p i = refl
+set_again Head o p i = refl
+set_again Patch o p i = refl
+set_again Trace o p i = refl
 
 -- ---- path items under their paths
 
