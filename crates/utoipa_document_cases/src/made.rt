@@ -45,7 +45,7 @@ impl Path for Task {
     }
 
     fn operation(alloc: Global) -> Result<Operation, AllocError> {
-        own(alloc, r#"{"operationId":"task","responses":{}}"#)
+        own::<Operation>(alloc, r#"{"operationId":"task","responses":{}}"#)
     }
 }
 
@@ -146,7 +146,10 @@ impl PathConfig for Tagged {
     fn tags_and_operation(alloc: Global) -> Result<(Vec<&'static str>, Operation), AllocError> {
         let mut tags = Vec::new(alloc);
         tags.push("a")?;
-        Ok((tags, own(alloc, r#"{"responses":{},"tags":["b"]}"#)?))
+        Ok((
+            tags,
+            own::<Operation>(alloc, r#"{"responses":{},"tags":["b"]}"#)?,
+        ))
     }
 }
 
@@ -171,7 +174,10 @@ impl PathConfig for Untagged {
     }
 
     fn tags_and_operation(alloc: Global) -> Result<(Vec<&'static str>, Operation), AllocError> {
-        Ok((Vec::new(alloc), own(alloc, r#"{"responses":{}}"#)?))
+        Ok((
+            Vec::new(alloc),
+            own::<Operation>(alloc, r#"{"responses":{}}"#)?,
+        ))
     }
 }
 
@@ -186,7 +192,7 @@ pub fn operation_of_type(alloc: Global, name: &str) -> Result<String, AllocError
 
 /// The document of each configuration: operations with and without tags, under methods that get further ones and under others.
 fn document(alloc: Global) -> Result<openapi::OpenApi, AllocError> {
-    own(
+    own::<openapi::OpenApi>(
         alloc,
         r#"{"info":{"title":"t","version":"1"},"openapi":"3.1.0","paths":{"/a":{"get":{"responses":{}},"query":{"responses":{}}},"/b":{"additionalOperations":{"COPY":{"responses":{}}},"trace":{"responses":{},"tags":["o"]}}},"webhooks":{"w":{"get":{"responses":{}}}}}"#,
     )
@@ -309,7 +315,10 @@ impl<'r> ToResponse<'r> for NotFound {
     ghost IsDescribed = { λ _. ⊤ };
 
     fn response(alloc: Global) -> Result<(&'r str, RefOr<Response>), AllocError> {
-        Ok(("NotFound", own(alloc, r#"{"description":"none there"}"#)?))
+        Ok((
+            "NotFound",
+            own::<RefOr<Response>>(alloc, r#"{"description":"none there"}"#)?,
+        ))
     }
 }
 
