@@ -5,8 +5,8 @@ usage: tools/refused.py CRATE [EDIT..]     each EDIT a file of crates/CRATE/wron
                                            with none, each file of crates/CRATE/wrong-bodies
 
 An edit is written as those that `rt ci` tries. It is one wrong body, refused where the prover refuses a function that it
-changes, or, where it changes the text of a type, any function. One called each_.. changes many functions, and is a wrong
-body of each.
+changes, or, where it changes the text of a type, any function. One called each_.. changes many functions, each line of it
+wherever it stands, and is a wrong body of each function.
 
 A round checks a copy of the crate with as many bodies as go together: no two of a function, or of a cycle of functions. A
 function that calls a refused one is not judged, so its body goes into the next round. Ends with status 1 where a body is
@@ -62,9 +62,12 @@ def functions_of(crate):
         above, cycle, function, start = None, None, None, 0
         for at, line in enumerate(lines):
             if re.match(r"(pub )?(impl|trait)\b", line):
-                name = type_named(line)
+                # its head may go over several lines
+                end = next(it for it in range(at, len(lines)) if "{" in lines[it])
+                head = " ".join(it.strip() for it in lines[at:end + 1])
+                name = type_named(head)
                 # a type's own functions are named by the module that the type stands in
-                above = [*(modules[file] if " for " in line else types.get(name, modules[file])), name]
+                above = [*(modules[file] if " for " in head else types.get(name, modules[file])), name]
             cycle = (re.match(r"\s*#\[cycle\((\w+)\)\]", line) or [None, cycle])[1]
             found = re.match(r"( *)(?:pub(?:\(\w+\))? )?(?:const |final )?fn (\w+)", line)
             if found:
@@ -84,6 +87,8 @@ def functions_of(crate):
 def bodies_of(crate, edit, standing):
     """Returns the wrong bodies of an edit, or why it can't be applied."""
     before, after, file, old = {}, {}, None, None
+    name = os.path.basename(edit)[:-len(".edit")]
+    is_of_each = name.startswith("each_")
     for line in lines_of(edit):
         if line.startswith("file: "):
             file = line[len("file: "):]
@@ -92,13 +97,13 @@ def bodies_of(crate, edit, standing):
         elif line.startswith("old: "):
             old = line[len("old: "):]
         elif line.startswith("new:"):
-            if after[file].count(old) != 1:
-                return "%r stands %d times in %s" % (old, after[file].count(old), file)
+            found = after[file].count(old)
+            if found != 1 and not (found and is_of_each):
+                return "%r stands %d times in %s" % (old, found, file)
             after[file] = after[file].replace(old, line[len("new:"):].removeprefix(" "))
     lines = {(file, at): new for file in after for at, new in enumerate(after[file].split("\n")) if new != before[file][at]}
     functions = sorted({standing[it] for it in lines if it in standing})
-    name = os.path.basename(edit)[:-len(".edit")]
-    if not name.startswith("each_"):
+    if not is_of_each:
         return [Body(name, lines, functions)]
     apart = [(it, {at: new for at, new in lines.items() if standing.get(at, it) == it}) for it in functions]
     return [Body("%s %s" % (name, it), of_it, [it]) for it, of_it in apart]
