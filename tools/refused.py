@@ -93,15 +93,17 @@ def bodies_of(crate, edit, standing):
         if line.startswith("file: "):
             file = line[len("file: "):]
             before.setdefault(file, lines_of(os.path.join(CRATES, crate, file)))
-            after.setdefault(file, "\n".join(before[file]))
+            after.setdefault(file, list(before[file]))
         elif line.startswith("old: "):
             old = line[len("old: "):]
         elif line.startswith("new:"):
-            found = after[file].count(old)
-            if found != 1 and not (found and is_of_each):
-                return "%r stands %d times in %s" % (old, found, file)
-            after[file] = after[file].replace(old, line[len("new:"):].removeprefix(" "))
-    lines = {(file, at): new for file in after for at, new in enumerate(after[file].split("\n")) if new != before[file][at]}
+            new = line[len("new:"):].removeprefix(" ")
+            found = [at for at, it in enumerate(before[file]) if old in it]
+            if len(found) != 1 and not (found and is_of_each):
+                return "%r stands in %d lines of %s" % (old, len(found), file)
+            for at in found:
+                after[file][at] = before[file][at].replace(old, new)
+    lines = {(file, at): new for file in after for at, new in enumerate(after[file]) if new != before[file][at]}
     functions = sorted({standing[it] for it in lines if it in standing})
     if not is_of_each:
         return [Body(name, lines, functions)]

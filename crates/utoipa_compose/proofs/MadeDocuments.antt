@@ -1,5 +1,5 @@
 -- The documents of the schemas that are made: of objects, arrays and combinations of which little is said.
-use Rattle.std.proofs.Common.{◌≡◌, ◌∷◌, ◌++◌, ◌∙◌, [], ℕ, List, String, string_bytes, Bool, Option, None, Some, option_map, Box, Global, Vec, map, ap, sym, refl}
+use Rattle.std.proofs.Common.{◌≡◌, ◌∷◌, ◌++◌, ◌∙◌, [], List, Bool, Option, None, Some, option_map, Box, Global, Vec, map, ap, sym, refl}
 use Rattle.serde_json.specs.declared.value.Value.{Value}
 use Rattle.utoipa_base.specs.Docs.{Doc, flag_doc, text_doc, own_doc, whole_doc, list_doc, map_doc, table_doc, no_docs, doc, docs_of, entries_of_list}
 use Rattle.utoipa_base.specs.Docs as docs
@@ -16,7 +16,7 @@ use Rattle.utoipa_schema_parts.specs.Types.{schema_type_doc}
 use Rattle.utoipa_schema_parts.specs.Xml.{xml_doc}
 use Rattle.utoipa_schema_parts.specs.declared.format.SchemaFormat.{SchemaFormat}
 use Rattle.utoipa_schema_parts.specs.declared.types.SchemaType.{SchemaType}
-use Rattle.utoipa_schema.specs.Builders.{Texts, Properties, one_object, object_place, array_place, one_of_place, one_array, IsEmptyObject, IsArrayOf, IsEmptyOneOf, Items}
+use Rattle.utoipa_schema.specs.Builders.{object_place, array_place, one_of_place, one_array, IsEmptyObject, IsArrayOf, IsEmptyOneOf, Items}
 use Rattle.utoipa_schema.specs.Docs.{schema_doc, array_items_doc, additional_properties_doc}
 use Rattle.utoipa_schema.specs.Folds.{schema-Array, schema-Object, schema-OneOf, items-RefOrSchema}
 use Rattle.utoipa_schema.specs.declared.types.AdditionalProperties.{AdditionalProperties}
@@ -25,7 +25,7 @@ use Rattle.utoipa_schema.specs.declared.types.Object.{Object}
 use Rattle.utoipa_schema.specs.declared.types.OneOf.{OneOf}
 use Rattle.utoipa_schema.specs.declared.types.Schema.{Schema}
 use Rattle.utoipa_compose.specs.Compositions.{place_doc}
-use Rattle.utoipa_compose.specs.Made.{object_of, struct_of, array_of, one_of}
+use Rattle.utoipa_compose.specs.Made.{object_of, array_of, one_of}
 
 -- an object of which nothing was said, with these members set
 pub object_with : (t : SchemaType) (o : Object) → IsEmptyObject t o → (f : Option SchemaFormat) (d : Option Value) (a : Option (Box (AdditionalProperties Schema) Global)) (k : Option (Box Schema Global)) (m : Option Number)
@@ -86,47 +86,6 @@ pub map_made : (t : SchemaType) (o : Object) → IsEmptyObject t o → (a : Opti
 map_made t o e a k =
     object_with t o e o.format o.default a k o.minimum ∙
     (λ i. object_of (schema_type_doc t) (option_of schema_format_doc (e.2 i)) (option_of tree_of (e.4 i)) (option_of (boxed (additional_properties_doc schema_doc)) a) (option_of (boxed schema_doc) k) (option_of number_doc (e.18 i)))
-
-as_texts : (xs : List (String Global)) → map text_of xs ≡ map text_doc (map string_bytes xs)
-as_texts [] = refl
-as_texts (x ∷ xs) = ap (λ ds. text_of x ∷ ds) (as_texts xs)
-
--- an object of which nothing was said but its properties, and which of them have to be there
-pub struct_made : (o : Object) → IsEmptyObject one_object o → (r : Texts) (p : Properties) (names : List (List ℕ)) (properties : List (List ℕ × Doc)) → map string_bytes r.items ≡ names → pairs_of place_doc p.entries ≡ properties
-    → place_doc (object_place (record o { required = r; properties = p })) ≡ struct_of names properties
-struct_made o (types, title, format, description, default, enums, required, standing, additional, keys, deprecated, example, examples, write_only, read_only, xml, multiple, maximum, minimum, exclusive_maximum, exclusive_minimum, max_length, min_length, pattern, max_properties, min_properties, encoding, media_type, content, extensions) r p names properties named made =
-    ap own_doc (schema-Object (record o { required = r; properties = p })) ∙
-    (λ i. own_doc (docs.schema_doc (table_doc object_schema
-    (doc (schema_type_doc (types i))
-    (doc (option_of text_of (title i))
-    (doc (option_of schema_format_doc (format i))
-    (doc (option_of text_of (description i))
-    (doc (option_of tree_of (default i))
-    (doc (option_of (list_of_docs tree_of) (enums i))
-    (doc (list_doc (docs_of ((as_texts r.items ∙ ap (map text_doc) named) i)))
-    (doc (map_doc (entries_of_list (made i)))
-    (doc (option_of (boxed (additional_properties_doc schema_doc)) (additional i))
-    (doc (option_of (boxed schema_doc) (keys i))
-    (doc (option_of deprecated_doc (deprecated i))
-    (doc (option_of tree_of (example i))
-    (doc (list_doc (docs_of (map tree_of (examples i))))
-    (doc (option_of flag_doc (write_only i))
-    (doc (option_of flag_doc (read_only i))
-    (doc (option_of xml_doc (xml i))
-    (doc (option_of number_doc (multiple i))
-    (doc (option_of number_doc (maximum i))
-    (doc (option_of number_doc (minimum i))
-    (doc (option_of number_doc (exclusive_maximum i))
-    (doc (option_of number_doc (exclusive_minimum i))
-    (doc (option_of whole_doc (max_length i))
-    (doc (option_of whole_doc (min_length i))
-    (doc (option_of text_of (pattern i))
-    (doc (option_of whole_doc (max_properties i))
-    (doc (option_of whole_doc (min_properties i))
-    (doc (text_doc (encoding i))
-    (doc (text_doc (media_type i))
-    (doc (option_of (boxed place_doc) (content i)) no_docs)))))))))))))))))))))))))))))
-    (option_map extensions_view (extensions i)))))
 
 -- an array of which nothing was said but its items, and whether they are unique
 pub array_with : (items : RefOr Schema) (a : Array) → IsArrayOf one_array items a → (u : Bool) → place_doc (array_place (record a { unique_items = u })) ≡ array_of (place_doc items) u
