@@ -146,7 +146,7 @@ fn clone_operation_map(
 /// Copies an operation, if there is one. Fails where memory runs out.
 #[cycle(copy)]
 fn clone_method(alloc: Global, method: Option<&Operation>) -> Result<Option<Operation>, AllocError>
-    ensures { IfOk result (λ copy. option_of operation_doc copy ≡ option_of operation_doc (option_map (λ o. o.now) method)) }
+    ensures { IfOk result (λ copy. option_of operation_doc copy ≡ option_of operation_doc (option_map (λ o. o.now) method.entry)) }
 {
     match method {
         Some(operation) => Ok(Some(clone_operation(alloc, operation)?)),
@@ -172,7 +172,7 @@ fn copy_method(
     Ok(())
 }
 
-/// Makes the operations of further methods copies of those of another path item. Fails where memory runs out, and then some may be.
+/// The same of QUERY and of the additional operations.
 #[cycle(copy)]
 fn copy_further_methods(
     copy: &mut PathItem,
@@ -191,21 +191,51 @@ fn copy_further_methods(
     Ok(())
 }
 
+/// Makes the operations of GET, PUT, POST and DELETE copies of those of another path item. Fails where memory runs out, and then some
+/// may be.
+#[cycle(copy)]
+fn copy_main_methods(copy: &mut PathItem, alloc: Global, item: &PathItem) -> Result<(), AllocError>
+    ensures { OnOk result ((get put post delete : Option Operation)
+        × (option_of operation_doc get ≡ option_of operation_doc (out-PathItem item.now).get)
+        × (option_of operation_doc put ≡ option_of operation_doc (out-PathItem item.now).put)
+        × (option_of operation_doc post ≡ option_of operation_doc (out-PathItem item.now).post)
+        × (option_of operation_doc delete ≡ option_of operation_doc (out-PathItem item.now).delete)
+        × (out-PathItem copy.new ≡ record (out-PathItem copy.old) { get = get; put = put; post = post; delete = delete })) }
+{
+    copy_method(copy, alloc, item, HttpMethod::Get)?;
+    copy_method(copy, alloc, item, HttpMethod::Put)?;
+    copy_method(copy, alloc, item, HttpMethod::Post)?;
+    copy_method(copy, alloc, item, HttpMethod::Delete)?;
+    Ok(())
+}
+
+/// The same of OPTIONS, HEAD, PATCH and TRACE.
+#[cycle(copy)]
+fn copy_other_methods(copy: &mut PathItem, alloc: Global, item: &PathItem) -> Result<(), AllocError>
+    ensures { OnOk result ((options head patch trace : Option Operation)
+        × (option_of operation_doc options ≡ option_of operation_doc (out-PathItem item.now).options)
+        × (option_of operation_doc head ≡ option_of operation_doc (out-PathItem item.now).head)
+        × (option_of operation_doc patch ≡ option_of operation_doc (out-PathItem item.now).patch)
+        × (option_of operation_doc trace ≡ option_of operation_doc (out-PathItem item.now).trace)
+        × (out-PathItem copy.new ≡ record (out-PathItem copy.old) { options = options; head = head; patch = patch; trace = trace })) }
+{
+    copy_method(copy, alloc, item, HttpMethod::Options)?;
+    copy_method(copy, alloc, item, HttpMethod::Head)?;
+    copy_method(copy, alloc, item, HttpMethod::Patch)?;
+    copy_method(copy, alloc, item, HttpMethod::Trace)?;
+    Ok(())
+}
+
 /// Makes the operations of a path item copies of those of another. Fails where memory runs out, and then some may be.
 #[cycle(copy)]
 fn copy_operations(copy: &mut PathItem, alloc: Global, item: &PathItem) -> Result<(), AllocError>
     ensures { OnOk result (operations_of operation_doc (out-PathItem copy.new)
         ≡ operations_of operation_doc (out-PathItem item.now)) }
 {
-    copy_method(copy, alloc, item, HttpMethod::Get)?;
-    copy_method(copy, alloc, item, HttpMethod::Put)?;
-    copy_method(copy, alloc, item, HttpMethod::Post)?;
-    copy_method(copy, alloc, item, HttpMethod::Delete)?;
-    copy_method(copy, alloc, item, HttpMethod::Options)?;
-    copy_method(copy, alloc, item, HttpMethod::Head)?;
-    copy_method(copy, alloc, item, HttpMethod::Patch)?;
-    copy_method(copy, alloc, item, HttpMethod::Trace)?;
-    copy_further_methods(copy, alloc, item)
+    copy_main_methods(copy, alloc, item)?;
+    copy_other_methods(copy, alloc, item)?;
+    copy_further_methods(copy, alloc, item)?;
+    Ok(())
 }
 
 /// A path item on the heap, of which nothing is said. Fails where memory runs out.

@@ -43,16 +43,16 @@ put_ref_or_path_item-clone_boxed_path_item-requires t c =
 pub put_ref_or_path_item-returns-in_ok-try_clone-in-Ref : goal.put_ref_or_path_item-returns-in_ok-try_clone-in-Ref
 put_ref_or_path_item-returns-in_ok-try_clone-in-Ref t c =
     let copy = c.in_ok-try_clone-in-Ref.field-0 in
-    on_ok_weaker c.put_reference-in-Ref.result
+    on_ok_weaker c.put_reference.result
     (λ put. (places.Ref copy, ap (ref_doc (named path_item_object)) c.in_ok-try_clone-in-Ref.ensures ∙ sym (ap (ref_or_doc (named path_item_object) path_item_doc) c.in-Ref.is), put))
-    c.put_reference-in-Ref.ensures
+    c.put_reference.ensures
 
 pub put_ref_or_path_item-returns-in_ok-clone_boxed_path_item-in-T : goal.put_ref_or_path_item-returns-in_ok-clone_boxed_path_item-in-T
 put_ref_or_path_item-returns-in_ok-clone_boxed_path_item-in-T t c =
     let copy = c.in_ok-clone_boxed_path_item-in-T.field-0 in
-    on_ok_weaker c.put_boxed-in-T.result
+    on_ok_weaker c.put_boxed.result
     (λ put. (places.T copy.value, ap own_doc c.in_ok-clone_boxed_path_item-in-T.ensures ∙ sym (ap (ref_or_doc (named path_item_object) path_item_doc) c.in-T.is), put))
-    c.put_boxed-in-T.ensures
+    c.put_boxed.ensures
 
 pub clone_callback-put_ref_or_path_item-requires : goal.clone_callback-put_ref_or_path_item-requires
 clone_callback-put_ref_or_path_item-requires t c =
@@ -124,40 +124,59 @@ copy_further_methods-clone_method-requires t c = (omega (arith, ap (λ o. weight
 pub copy_further_methods-clone_operation_map-requires : goal.copy_further_methods-clone_operation_map-requires
 copy_further_methods-clone_operation_map-requires t c = (omega (arith, (among_operations c.args.item.now).9), tt)
 
-pub copy_operations-returns : goal.copy_operations-returns
-copy_operations-returns t c =
+pub copy_main_methods-returns : goal.copy_main_methods-returns
+copy_main_methods-returns t c =
     let get = c.in_ok-copy_method.ensures in
     let put = c.in_ok-copy_method-2.ensures in
     let post = c.in_ok-copy_method-3.ensures in
-    let delete = c.in_ok-copy_method-4.ensures in
-    let options = c.in_ok-copy_method-5.ensures in
-    let head = c.in_ok-copy_method-6.ensures in
-    let patch = c.in_ok-copy_method-7.ensures in
-    let trace = c.in_ok-copy_method-8.ensures in
-    on_ok_weaker c.copy_further_methods.result
-    (λ further.
-    ap (operations_of operation_doc)
-    (further.4
-    ∙ ap (with_further further.0 further.1)
-    (trace.2
-    ∙ ap (with_method Trace trace.0)
-    (patch.2
-    ∙ ap (with_method Patch patch.0)
-    (head.2
-    ∙ ap (with_method Head head.0)
-    (options.2
-    ∙ ap (with_method Options options.0) (delete.2 ∙ ap (with_method Delete delete.0) (post.2 ∙ ap (with_method Post post.0) (put.2 ∙ ap (with_method Put put.0) get.2))))))))
-    ∙ (same_field _ _ _ _ get.1
-    (same_field _ _ _ _ put.1
-    (same_field _ _ _ _ post.1
-    (same_field _ _ _ _ delete.1
-    (same_field _ _ _ _ options.1
-    (same_field _ _ _ _ head.1
-    (same_field _ _ _ _ patch.1
-    (same_field _ _ _ _ trace.1
+    let delete = c.in_ok-copy_method-4.ensures in (
+      get.0,
+      put.0,
+      post.0,
+      delete.0,
+      get.1,
+      put.1,
+      post.1,
+      delete.1,
+      delete.2 ∙ ap (with_method Delete delete.0) (post.2 ∙ ap (with_method Post post.0) (put.2 ∙ ap (with_method Put put.0) get.2)),
+    )
+
+pub copy_other_methods-returns : goal.copy_other_methods-returns
+copy_other_methods-returns t c =
+    let options = c.in_ok-copy_method.ensures in
+    let head = c.in_ok-copy_method-2.ensures in
+    let patch = c.in_ok-copy_method-3.ensures in
+    let trace = c.in_ok-copy_method-4.ensures in (
+      options.0,
+      head.0,
+      patch.0,
+      trace.0,
+      options.1,
+      head.1,
+      patch.1,
+      trace.1,
+      trace.2 ∙ ap (with_method Trace trace.0) (patch.2 ∙ ap (with_method Patch patch.0) (head.2 ∙ ap (with_method Head head.0) options.2)),
+    )
+
+with_other : (options head patch trace : Option Operation) → PathItemFields → PathItemFields
+with_other options head patch trace i = record i { options = options; head = head; patch = patch; trace = trace }
+
+with_further : Option Operation → Operations → PathItemFields → PathItemFields
+with_further query additional i = record i { query = query; additional_operations = additional }
+
+pub copy_operations-returns : goal.copy_operations-returns
+copy_operations-returns t c =
+    let main = c.in_ok-copy_main_methods.ensures in
+    let other = c.in_ok-copy_other_methods.ensures in
+    let further = c.in_ok-copy_further_methods.ensures in
+    ap (operations_of operation_doc) (further.4 ∙ ap (with_further further.0 further.1) (other.8 ∙ ap (with_other other.0 other.1 other.2 other.3) main.8))
+    ∙ (same_field _ _ _ _ main.4
+    (same_field _ _ _ _ main.5
+    (same_field _ _ _ _ main.6
+    (same_field _ _ _ _ main.7
+    (same_field _ _ _ _ other.4
+    (same_field _ _ _ _ other.5
+    (same_field _ _ _ _ other.6
+    (same_field _ _ _ _ other.7
     (same_field _ _ _ _ further.2
-    (same_field _ _ _ _ further.3 refl)))))))))))
-    c.copy_further_methods.ensures
-  where
-    with_further : Option Operation → Operations → PathItemFields → PathItemFields
-    with_further query additional i = record i { query = query; additional_operations = additional }
+    (same_field _ _ _ _ further.3 refl))))))))))
