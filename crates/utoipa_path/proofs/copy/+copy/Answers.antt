@@ -5,7 +5,7 @@ use Rattle.utoipa_base.specs.Docs.{some_doc, own_doc, ref_doc}
 use Rattle.utoipa_base.specs.Kinds.{named, path_item_object}
 use Rattle.utoipa_base.specs.Refs.{ref_or_doc}
 use Rattle.utoipa_base.specs.Tables.{callback}
-use Rattle.utoipa_base.specs.Views.{option_of}
+use Rattle.utoipa_base.specs.Views.{option_of, map_of_docs}
 use Rattle.utoipa_base.specs.declared.refs.RefOr.{RefOr}
 use Rattle.utoipa_base.specs.declared.refs.RefOr.TheVariants as places
 use Rattle.utoipa_base.proofs.TableParts.{same_field}
@@ -16,7 +16,7 @@ use Rattle.utoipa_leaf.specs.declared.path.HttpMethod.TheVariants.{Get, Post, Pu
 use Rattle.utoipa_path.specs.Builders.{PathItemFields, Operations}
 use Rattle.utoipa_path.specs.Methods.{with_method}
 use Rattle.utoipa_path.specs.declared.types.Operation.{Operation}
-use Rattle.utoipa_path.specs.declared.types.PathItem.{PathItem}
+use Rattle.utoipa_path.specs.declared.types.PathItem.{PathItem, out-PathItem, roll-PathItem, out-roll-PathItem}
 use Rattle.utoipa_path.proofs.Weights.{held_by_operation, lighter_operations, among_operations, among_methods}
 use Rattle.utoipa_path.proofs.copy.+copy.Goals as goal
 
@@ -119,10 +119,23 @@ pub copy_method-clone_method-requires : goal.copy_method-clone_method-requires
 copy_method-clone_method-requires t c = (omega (arith, ap (λ o. weight (option_of operation_doc o)) c.operation_of.ensures, among_methods c.args.method c.args.item.now), tt)
 
 pub copy_further_methods-clone_method-requires : goal.copy_further_methods-clone_method-requires
-copy_further_methods-clone_method-requires t c = (omega (arith, ap (λ o. weight (option_of operation_doc o)) c.as_ref.ensures, (among_operations c.args.item.now).8), tt)
+copy_further_methods-clone_method-requires t c = (omega (arith, ap (λ o. weight (option_of operation_doc o)) c.as_ref.ensures.value, (among_operations c.args.item.now).8), tt)
 
 pub copy_further_methods-clone_operation_map-requires : goal.copy_further_methods-clone_operation_map-requires
 copy_further_methods-clone_operation_map-requires t c = (omega (arith, (among_operations c.args.item.now).9), tt)
+
+pub copy_further_methods-returns : goal.copy_further_methods-returns
+copy_further_methods-returns t c =
+    let query = c.replace.new.dest in
+    let additional = c.replace-2.new.dest in
+    let with_query : PathItemFields = record (out-PathItem c.args.copy.now) { query = query } in (
+      query,
+      additional,
+      ap (option_of operation_doc) c.replace.ensures.after ∙ c.in_ok-query.ensures ∙ ap (option_of operation_doc) c.as_ref.ensures.value,
+      ap (map_of_docs operation_doc) c.replace-2.ensures.after ∙ c.in_ok-additional.ensures,
+      out-roll-PathItem (record (out-PathItem (roll-PathItem with_query)) { additional_operations = additional })
+          ∙ ap (λ i. record i { additional_operations = additional }) (out-roll-PathItem with_query),
+    )
 
 pub copy_main_methods-returns : goal.copy_main_methods-returns
 copy_main_methods-returns t c =
@@ -158,10 +171,10 @@ copy_other_methods-returns t c =
       trace.2 ∙ ap (with_method Trace trace.0) (patch.2 ∙ ap (with_method Patch patch.0) (head.2 ∙ ap (with_method Head head.0) options.2)),
     )
 
-with_other : (options head patch trace : Option Operation) → PathItemFields → PathItemFields
+abbrev with_other : (options head patch trace : Option Operation) → PathItemFields → PathItemFields
 with_other options head patch trace i = record i { options = options; head = head; patch = patch; trace = trace }
 
-with_further : Option Operation → Operations → PathItemFields → PathItemFields
+abbrev with_further : Option Operation → Operations → PathItemFields → PathItemFields
 with_further query additional i = record i { query = query; additional_operations = additional }
 
 pub copy_operations-returns : goal.copy_operations-returns
