@@ -134,7 +134,7 @@ copy_further_methods-returns t c =
       ap (option_of operation_doc) c.replace.ensures.after ∙ c.in_ok-query.ensures ∙ ap (option_of operation_doc) c.as_ref.ensures.value,
       ap (map_of_docs operation_doc) c.replace-2.ensures.after ∙ c.in_ok-additional.ensures,
       out-roll-PathItem (record (out-PathItem (roll-PathItem with_query)) { additional_operations = additional })
-          ∙ ap (λ i. record i { additional_operations = additional }) (out-roll-PathItem with_query),
+          ∙ ap {A = PathItemFields} (λ i. record i { additional_operations = additional }) (out-roll-PathItem with_query),
     )
 
 pub copy_main_methods-returns : goal.copy_main_methods-returns
