@@ -1,13 +1,14 @@
 -- Tags that operations bear beside their own.
-use Rattle.std.specs.Prelude.{ℕ, List, [], ◌∷◌, ◌++◌, if◌then◌else◌, map, codes}
+use Rattle.std.specs.Prelude.{ℕ, List, Option, [], ◌∷◌, ◌++◌, if◌then◌else◌, map, codes}
 use Rattle.std.specs.Borrow.{Bor}
 use Rattle.std.specs.Str.{bytes_eq}
 use Rattle.utoipa_base.specs.Docs.{Doc, text_doc, some_doc, list_doc, map_doc, entries_doc, table_doc, Docs, no_docs, doc, docs_of, Entries, no_entries, entry, entries_of_list}
 use Rattle.utoipa_base.specs.Kinds.{Row}
 use Rattle.utoipa_base.specs.Tables.{table}
-use Rattle.utoipa_base.specs.Views.{pairs_of}
+use Rattle.utoipa_base.specs.Views.{option_of, pairs_of}
 use Rattle.utoipa_merging.specs.Slots.{items_in}
-use Rattle.utoipa_path.specs.Docs.{path_item_doc}
+use Rattle.utoipa_path.specs.Docs.{operation_doc, path_item_doc}
+use Rattle.utoipa_path.specs.declared.types.Operation.{Operation}
 use Rattle.utoipa_paths.specs.Items.{ItemsByPath}
 
 -- the texts that are shown
@@ -87,6 +88,10 @@ nested_texts further path own = texts_doc (or_module path (texts_in own ++ furth
 -- the operation, with further tags behind its own, or with the path of the module where there are none
 abbrev pub nested_operation : (further : List (List ℕ)) (path : List ℕ) → Doc → Doc
 nested_operation further path = in_field (codes "tags") (nested_texts further path)
+
+-- the operation of a method, so changed where there is one
+abbrev pub nested_method : (further : List (List ℕ)) (path : List ℕ) → Option Operation → Doc
+nested_method further path o = in_option (nested_operation further path) (option_of operation_doc o)
 
 -- the members of a Path Item Object that hold operations of the methods that `HttpMethod` names
 abbrev pub method_members : List (List ℕ)

@@ -8,7 +8,7 @@ ghost use Rattle.utoipa_path.specs.Methods.{operation_at, with_method};
 ghost use Rattle.utoipa_path.specs.declared.types.Operation.{Operation};
 ghost use Rattle.utoipa_path.specs.declared.types.PathItem.{out-PathItem};
 ghost use Rattle.utoipa.specs.OpenApi.{openapi_doc};
-ghost use Rattle.utoipa.specs.Tags.{texts_of, or_module, with_tags, nested_operation, nested_item, nested_openapi, in_option, item_entries, change_entries};
+ghost use Rattle.utoipa.specs.Tags.{texts_of, or_module, with_tags, nested_operation, nested_item, nested_method, nested_openapi, item_entries, change_entries};
 
 use crate::document::OpenApi;
 use crate::traits::{NestedApiConfig, PathConfig};
@@ -78,14 +78,51 @@ fn tag_item(
 ) -> Result<(), AllocError>
     ensures { OnOk result (path_item_doc item.new ≡ nested_item (texts_of tags.now.items) module_path.now (path_item_doc item.old)) }
 {
+    tag_main_methods(item, alloc, tags, module_path)?;
+    tag_other_methods(item, alloc, tags, module_path)?;
+    Ok(())
+}
+
+/// Adds further tags to the operations of GET, PUT, POST and DELETE. Fails where memory runs out, and then some operations have them.
+fn tag_main_methods(
+    item: &mut PathItem,
+    alloc: Global,
+    tags: &Vec<&'static str>,
+    module_path: &str,
+) -> Result<(), AllocError>
+    ensures { OnOk result ((get put post delete : Option Operation)
+        × (option_of operation_doc get ≡ nested_method (texts_of tags.now.items) module_path.now (out-PathItem item.old).get)
+        × (option_of operation_doc put ≡ nested_method (texts_of tags.now.items) module_path.now (out-PathItem item.old).put)
+        × (option_of operation_doc post ≡ nested_method (texts_of tags.now.items) module_path.now (out-PathItem item.old).post)
+        × (option_of operation_doc delete ≡ nested_method (texts_of tags.now.items) module_path.now (out-PathItem item.old).delete)
+        × (out-PathItem item.new ≡ record (out-PathItem item.old) { get = get; put = put; post = post; delete = delete })) }
+{
     tag_method(item, alloc, HttpMethod::Get, tags, module_path)?;
     tag_method(item, alloc, HttpMethod::Put, tags, module_path)?;
     tag_method(item, alloc, HttpMethod::Post, tags, module_path)?;
     tag_method(item, alloc, HttpMethod::Delete, tags, module_path)?;
+    Ok(())
+}
+
+/// The same of OPTIONS, HEAD, PATCH and TRACE.
+fn tag_other_methods(
+    item: &mut PathItem,
+    alloc: Global,
+    tags: &Vec<&'static str>,
+    module_path: &str,
+) -> Result<(), AllocError>
+    ensures { OnOk result ((options head patch trace : Option Operation)
+        × (option_of operation_doc options ≡ nested_method (texts_of tags.now.items) module_path.now (out-PathItem item.old).options)
+        × (option_of operation_doc head ≡ nested_method (texts_of tags.now.items) module_path.now (out-PathItem item.old).head)
+        × (option_of operation_doc patch ≡ nested_method (texts_of tags.now.items) module_path.now (out-PathItem item.old).patch)
+        × (option_of operation_doc trace ≡ nested_method (texts_of tags.now.items) module_path.now (out-PathItem item.old).trace)
+        × (out-PathItem item.new ≡ record (out-PathItem item.old) { options = options; head = head; patch = patch; trace = trace })) }
+{
     tag_method(item, alloc, HttpMethod::Options, tags, module_path)?;
     tag_method(item, alloc, HttpMethod::Head, tags, module_path)?;
     tag_method(item, alloc, HttpMethod::Patch, tags, module_path)?;
-    tag_method(item, alloc, HttpMethod::Trace, tags, module_path)
+    tag_method(item, alloc, HttpMethod::Trace, tags, module_path)?;
+    Ok(())
 }
 
 /// Adds further tags to the operation of a method, if there is one. Fails where memory runs out, and then gives it up.
@@ -97,7 +134,7 @@ fn tag_method(
     module_path: &str,
 ) -> Result<(), AllocError>
     ensures { OnOk result ((operation : Option Operation)
-        × (option_of operation_doc operation ≡ in_option (nested_operation (texts_of tags.now.items) module_path.now) (option_of operation_doc (operation_at method (out-PathItem item.old))))
+        × (option_of operation_doc operation ≡ nested_method (texts_of tags.now.items) module_path.now (operation_at method (out-PathItem item.old)))
         × (out-PathItem item.new ≡ with_method method operation (out-PathItem item.old))) }
 {
     if let Some(operation) = replace_operation(item, method, None) {
