@@ -15,7 +15,7 @@ use crate::traits::{NestedApiConfig, PathConfig};
 use std::alloc::{AllocError, Global};
 use std::collections::BTreeMap;
 use std::mem;
-use utoipa_base::put;
+use utoipa_base::{put, set};
 use utoipa_leaf::path::HttpMethod;
 use utoipa_path::methods::replace_operation;
 use utoipa_path::{Operation, PathItem};
@@ -30,8 +30,7 @@ pub fn operation_of<T: PathConfig>(alloc: Global) -> Result<Operation, AllocErro
 {
     let (tags, operation) = T::tags_and_operation(alloc)?;
     let mut operation = operation;
-    add_tags(&mut operation, alloc, &tags)?;
-    Ok(operation)
+    add_tags(&mut operation, alloc, &tags).and(Ok(operation))
 }
 
 /// The document of a type, where each operation under one of the eight methods of [`HttpMethod`](crate::openapi::HttpMethod) has its
@@ -46,9 +45,8 @@ pub fn openapi_of<T: NestedApiConfig>(alloc: Global) -> Result<OpenApi, AllocErr
     let (document, tags, module_path) = T::config(alloc)?;
     let mut document = document;
     let items = mem::replace(&mut document.paths.paths, BTreeMap::new(alloc));
-    let items = nested_items(alloc, items, &tags, module_path)?;
-    drop(mem::replace(&mut document.paths.paths, items));
-    Ok(document)
+    let items = nested_items(alloc, items, &tags, module_path);
+    set(&mut document.paths.paths, items).and(Ok(document))
 }
 
 /// The path items, whose operations have their tags and the further ones. Fails where memory runs out.
@@ -62,11 +60,23 @@ fn nested_items(
 {
     let mut nested = BTreeMap::new(alloc);
     for (path, item) in items {
-        let mut item = item;
-        tag_item(&mut item, alloc, tags, module_path)?;
+        let item = tagged_item(alloc, item, tags, module_path)?;
         put(&mut nested, path, item)?;
     }
     Ok(nested)
+}
+
+/// The path item, whose operations have their tags and the further ones. Fails where memory runs out.
+fn tagged_item(
+    alloc: Global,
+    item: PathItem,
+    tags: &Vec<&'static str>,
+    module_path: &str,
+) -> Result<PathItem, AllocError>
+    ensures { IfOk result (λ tagged. path_item_doc tagged ≡ nested_item (texts_of tags.now.items) module_path.now (path_item_doc item)) }
+{
+    let mut item = item;
+    tag_item(&mut item, alloc, tags, module_path).and(Ok(item))
 }
 
 /// Adds further tags to the operations of a path item. Fails where memory runs out, and then some operations have them.

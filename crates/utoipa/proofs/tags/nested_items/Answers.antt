@@ -6,7 +6,7 @@ loop-path-init c = none_changed _ _ _ _ c.into_iter-path-iterator.ensures.into_i
 
 pub loop-path-preserved : goal.loop-path-preserved
 loop-path-preserved c =
-    one_changed _ _ _ _ _ (c.in-Some.path, c.in-Some.item) _ c.tag_item.new.item c.loop-path.invariant c.in-Some.ensures.steps c.into_iter-path-iterator.ensures.into_iter_gives.5 c.in_ok-tag_item.ensures c.in_ok-put.ensures.ok
+    one_changed _ _ _ _ _ (c.in-Some.path, c.in-Some.item) _ c.in_ok-item.item c.loop-path.invariant c.in-Some.ensures.steps c.into_iter-path-iterator.ensures.into_iter_gives.5 c.in_ok-item.ensures c.in_ok-put.ensures.ok
 
 pub returns : goal.returns
 returns c = all_changed _ _ _ _ c.loop-path.invariant c.in-None.ensures.steps.0
