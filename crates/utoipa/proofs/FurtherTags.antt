@@ -68,7 +68,7 @@ set_again Trace o p i = refl
 -- ---- path items under their paths
 
 -- each entry's document changed
-changed_pairs : (Doc → Doc) → List (List ℕ × Doc) → List (List ℕ × Doc)
+abbrev pub changed_pairs : (Doc → Doc) → List (List ℕ × Doc) → List (List ℕ × Doc)
 changed_pairs change = map (λ p. (p.0, change p.1))
 
 -- the entries before `left` have been put with changed documents
@@ -76,7 +76,7 @@ pub record ItemsChanged (change : Doc → Doc) (all left es : Pairs PathItem) : 
   pub done : Pairs PathItem
   pub split : all ≡ done ++ left
   pub names : texts es ≡ texts done
-  pub docs : pairs_of path_item_doc es ≡ map (λ p. (p.0, change p.1)) (pairs_of path_item_doc done)
+  pub docs : pairs_of path_item_doc es ≡ changed_pairs change (pairs_of path_item_doc done)
 
 pub none_changed : (change : Doc → Doc) (all left es : Pairs PathItem) → left ≡ all → es ≡ [] → ItemsChanged change all left es
 none_changed change all left es whole none = record { done = []; split = sym whole; names = ap texts none; docs = ap (pairs_of path_item_doc) none }

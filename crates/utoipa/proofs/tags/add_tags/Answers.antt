@@ -14,5 +14,5 @@ returns c =
     let further = texts_of c.args.tags.now.items in
     let texts = c.in_ok-tags_behind.ensures ∙ ap (λ ts. ts ++ further) (ap (λ o. map string_bytes (items_if_any o)) c.replace-own.ensures.value ∙ sym (texts_of_list own.tags)) in
     tags_changed (with_texts further) c.args.operation.now _ list
-    (out-roll-Operation (record (out-Operation (roll-Operation without)) { tags = Some list }) ∙ ap (λ i. record i { tags = Some list }) (out-roll-Operation without))
+    (out-roll-Operation (record (out-Operation (roll-Operation without)) { tags = Some list }) ∙ ap {A = Operation-F Operation PathItem} (λ i. record i { tags = Some list }) (out-roll-Operation without))
     (list_of_texts list _ texts)

@@ -15,5 +15,5 @@ returns c =
     let path = c.args.module_path.now in
     let behind = c.in_ok-tags.ensures ∙ ap (λ ts. ts ++ further) (ap (λ o. map string_bytes (items_if_any o)) c.replace-own.ensures.value ∙ sym (texts_of_list own.tags)) in
     tags_changed (nested_texts further path) c.args.operation.now _ list
-    (out-roll-Operation (record (out-Operation (roll-Operation without)) { tags = Some list }) ∙ ap (λ i. record i { tags = Some list }) (out-roll-Operation without))
+    (out-roll-Operation (record (out-Operation (roll-Operation without)) { tags = Some list }) ∙ ap {A = Operation-F Operation PathItem} (λ i. record i { tags = Some list }) (out-roll-Operation without))
     (list_of_texts list _ (c.in_ok-tags_or_module.ensures ∙ ap (or_module path) behind))
