@@ -10,8 +10,7 @@ pub returns-in_ok-tag_operation : goal.returns-in_ok-tag_operation
 returns-in_ok-tag_operation c =
     let method = c.args.method in
     let tagged = c.tag_operation.new.operation in
-    let stood = sym c.replace_operation.ensures.before ∙ c.in-Some.is in
-    (
+    let stood = sym c.replace_operation.ensures.before ∙ c.in-Some.is in (
       Some tagged,
       ap some_doc c.in_ok-tag_operation.ensures ∙ sym (ap (nested_method (texts_of c.args.tags.now.items) c.args.module_path.now) stood),
       c.replace_operation-in-Some.ensures.after ∙ ap (with_method method (Some tagged)) c.replace_operation.ensures.after ∙ set_again method (Some tagged) None (out-PathItem c.args.item.now),
