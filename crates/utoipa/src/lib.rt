@@ -20,7 +20,7 @@ pub use utoipa_operation_parts::{IntoParams, IntoResponses, ToResponse};
 pub use utoipa_paths::Path;
 
 /// Traits of which the implementations of others are made.
-pub mod __dev {
+pub mod dev {
     pub use crate::traits::{NestedApiConfig, PathConfig, Tags};
     pub use utoipa_compose::{ComposeSchema, SchemaReferences};
 }

@@ -5,7 +5,7 @@ ghost use Rattle.utoipa_leaf.specs.declared.path.HttpMethod.TheVariants.{Get, Pu
 use crate::merged::read_text;
 use std::alloc::{AllocError, Global};
 use std::collections::BTreeMap;
-use utoipa::__dev::{NestedApiConfig, PathConfig};
+use utoipa::dev::{NestedApiConfig, PathConfig};
 use utoipa::openapi::path::{HttpMethod, Operation, Parameter, ParameterIn};
 use utoipa::openapi::{self, Components, Paths, RefOr, Response, Responses};
 use utoipa::{IntoParams, IntoResponses, Path, ToResponse, openapi_of, operation_of};

@@ -9,8 +9,8 @@ pub mod utoipa_root {
     };
 }
 
-pub mod __dev {
-    pub use utoipa::__dev::{ComposeSchema, NestedApiConfig, PathConfig, SchemaReferences, Tags};
+pub mod dev {
+    pub use utoipa::dev::{ComposeSchema, NestedApiConfig, PathConfig, SchemaReferences, Tags};
 }
 
 pub mod openapi {
