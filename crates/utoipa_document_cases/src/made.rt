@@ -99,7 +99,7 @@ impl IntoParams for Limit {
         alloc: Global,
         parameter_in_provider: F,
     ) -> Result<Vec<Parameter>, AllocError> {
-        let mut parameter = Parameter::new(String::from_str(alloc, "limit")?);
+        let mut parameter = Parameter::new(alloc, String::from_str(alloc, "limit")?);
         if let Some(place) = parameter_in_provider() {
             parameter.parameter_in = place;
         }
