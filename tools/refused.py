@@ -98,11 +98,18 @@ def bodies_of(crate, edit, standing):
             old = line[len("old: "):]
         elif line.startswith("new:"):
             new = line[len("new:"):].removeprefix(" ")
-            found = [at for at, it in enumerate(before[file]) if old in it]
+            if is_of_each:
+                # each line by itself, as it stands in the source
+                found = [at for at, it in enumerate(before[file]) if old in it]
+                for at in found:
+                    after[file][at] = before[file][at].replace(old, new)
+            else:
+                # one text after the other
+                text = "\n".join(after[file])
+                found = range(text.count(old))
+                after[file] = text.replace(old, new).split("\n")
             if len(found) != 1 and not (found and is_of_each):
-                return "%r stands in %d lines of %s" % (old, len(found), file)
-            for at in found:
-                after[file][at] = before[file][at].replace(old, new)
+                return "%r stands %d times in %s" % (old, len(found), file)
     lines = {(file, at): new for file in after for at, new in enumerate(after[file]) if new != before[file][at]}
     functions = sorted({standing[it] for it in lines if it in standing})
     if not is_of_each:
