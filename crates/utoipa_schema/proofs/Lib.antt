@@ -1,5 +1,10 @@
 pub mod Choices
+pub mod Fewer
+pub mod Filling
+pub mod Fitting
 pub mod MemberCounts
 pub mod SchemaCounts
 pub mod SchemaMembers
+pub mod Taken
+pub mod Walks
 pub mod Weights

@@ -1,5 +1,5 @@
--- The counter of readings over schemas, and what a content schema that does not fit refuses.
-use Rattle.std.proofs.Common.{Option, Box, Global, Vec, String, BTreeMap, ◌∙◌, ap, ◌≡◌, ◌+◌, ◌<◌, ◌≤◌, ℕ, None, Result, Ok, Err, IfOk, arith}
+-- The schema places of schemas, and what a content schema that does not fit refuses.
+use Rattle.std.proofs.Common.{◌∙◌, ap, ◌≡◌, ◌+◌, None, Result, Ok, Err, IfOk, arith}
 use Rattle.serde_json.specs.Data.{Data}
 use Rattle.utoipa_base.specs.Docs.{Doc}
 use Rattle.utoipa_base.specs.Docs as docs
@@ -11,18 +11,10 @@ use Rattle.utoipa_base.proofs.ByRows.{table_refused, fields-first}
 use Rattle.utoipa_base.proofs.Places.{schema_count-none}
 use Rattle.utoipa_base.proofs.TableParts.{join-later}
 use Rattle.utoipa_schema.specs.Choice.{content_schema_row, ContentSchema, content_schema_doc}
-use Rattle.utoipa_schema.specs.Docs.{schema_doc, array_items_doc, array_doc, object_doc, additional_properties_doc}
-use Rattle.utoipa_base.specs.Refs.{ref_or_doc}
-use Rattle.utoipa_base.specs.Views.{boxed, option_of, list_of_docs, map_of_docs}
-use Rattle.utoipa_base.specs.declared.refs.RefOr.{RefOr}
-use Rattle.utoipa_schema.specs.declared.types.AdditionalProperties.{AdditionalProperties}
-use Rattle.utoipa_schema.specs.declared.types.ArrayItems.{ArrayItems}
-use Rattle.utoipa_schema.specs.declared.types.Schema.{Schema}
-use Rattle.utoipa_schema.specs.Folds.{schema-Array, schema-Object}
+use Rattle.utoipa_schema.specs.Docs.{array_doc, object_doc}
 use Rattle.utoipa_schema.proofs.MemberCounts.{array_counts, object_counts}
 use Rattle.utoipa_schema.specs.declared.types.Array.{Array}
 use Rattle.utoipa_schema.specs.declared.types.Object.{Object}
-use Rattle.utoipa_schema.specs.declared.types.Schema as schemas
 use Rattle.utoipa_schema.specs.Parts.{array_head_rows, array_schema_rows, array_annotation_rows, item_limit_and_representation_rows, content_schema_rows, object_head_rows, object_schema_rows, object_annotation_rows, number_limit_rows, size_limit_and_content_rows}
 
 -- a schema is one schema more than its table has
@@ -55,37 +47,3 @@ pub object_content_counts : (o : Object) (content : ContentSchema) → o.content
 object_content_counts o content none =
     let without : schema_count (content_schema_doc o.content_schema) ≡ 0 = ap (λ c. schema_count (content_schema_doc c)) none ∙ schema_count-none in
     omega (arith, object_counts (record o { content_schema = content }), object_counts o, without)
-
-pub single_array : (a : Array) (content : ContentSchema) (old new : ℕ) → a.content_schema ≡ None → (new < 18446744073709551615 → old + schema_count (array_doc a) ≤ new) → new < 18446744073709551615
-    → old + schema_count (schema_doc (schemas.Array (record a { content_schema = content }))) ≤ new + 1 + schema_count (content_schema_doc content)
-single_array a content old new none counted below =
-    omega (arith, counted below, array_content_counts a content none, ap schema_count (schema-Array (record a { content_schema = content })), counts_one (array_doc (record a { content_schema = content })))
-
-pub single_object : (o : Object) (content : ContentSchema) (old new : ℕ) → o.content_schema ≡ None → (new < 18446744073709551615 → old + schema_count (object_doc o) ≤ new) → new < 18446744073709551615
-    → old + schema_count (schema_doc (schemas.Object (record o { content_schema = content }))) ≤ new + 1 + schema_count (content_schema_doc content)
-single_object o content old new none counted below =
-    omega (arith, counted below, object_content_counts o content none, ap schema_count (schema-Object (record o { content_schema = content })), counts_one (object_doc (record o { content_schema = content })))
-
--- ---- an array and an object without a content schema, whose members were counted one after the other
-
-pub array_kept : (a : Array) (items : ArrayItems) (prefix : Vec Schema Global) (old mid new : ℕ) → (a.items ≡ items) × (a.prefix_items ≡ prefix) × (a.content_schema ≡ None)
-    → (mid < 18446744073709551615 → old + schema_count (array_items_doc items) ≤ mid) → mid ≤ new → (new < 18446744073709551615 → mid + schema_count (list_of_docs schema_doc prefix) ≤ new)
-    → new < 18446744073709551615 → old + schema_count (array_doc a) ≤ new
-array_kept a items prefix old mid new k first grows second below =
-    let one = ap (λ i. schema_count (array_items_doc i)) k.0 in
-    let two = ap (λ v. schema_count (list_of_docs schema_doc v)) k.1 in
-    let none : schema_count (content_schema_doc a.content_schema) ≡ 0 = ap (λ c. schema_count (content_schema_doc c)) k.2 ∙ schema_count-none in
-    omega (arith, array_counts a, one, two, none, first (omega (arith, grows, below)), second below)
-
-pub object_kept : (o : Object) (properties : BTreeMap (String Global) (RefOr Schema)) (additional : Option (Box (AdditionalProperties Schema) Global)) (names : Option (Box Schema Global)) (old mid later new : ℕ)
-    → (o.properties ≡ properties) × (o.additional_properties ≡ additional) × (o.property_names ≡ names) × (o.content_schema ≡ None)
-    → (mid < 18446744073709551615 → old + schema_count (map_of_docs (ref_or_doc schema schema_doc) properties) ≤ mid)
-    → mid ≤ later → (later < 18446744073709551615 → mid + schema_count (option_of (boxed (additional_properties_doc schema_doc)) additional) ≤ later)
-    → later ≤ new → (new < 18446744073709551615 → later + schema_count (option_of (boxed schema_doc) names) ≤ new)
-    → new < 18446744073709551615 → old + schema_count (object_doc o) ≤ new
-object_kept o properties additional names old mid later new k first grows second rises third below =
-    let one = ap (λ m. schema_count (map_of_docs (ref_or_doc schema schema_doc) m)) k.0 in
-    let two = ap (λ q. schema_count (option_of (boxed (additional_properties_doc schema_doc)) q)) k.1 in
-    let three = ap (λ q. schema_count (option_of (boxed schema_doc) q)) k.2 in
-    let none : schema_count (content_schema_doc o.content_schema) ≡ 0 = ap (λ c. schema_count (content_schema_doc c)) k.3 ∙ schema_count-none in
-    omega (arith, object_counts o, one, two, three, none, first (omega (arith, grows, rises, below)), second (omega (arith, rises, below)), third below)

@@ -4,4 +4,6 @@ pub mod Docs
 pub mod Folds
 pub mod Layers
 pub mod OfKind
+pub mod Outcomes
 pub mod Parts
+pub mod Places

@@ -1,6 +1,4 @@
 //! The members of each alternative of a schema beside those that hold schemas, which have been read before.
-//!
-//! No `assemble_` function is inlined: its room is not to stand on the stack while the schemas inside are read.
 ghost use Rattle.std.specs.Prelude.{◌≡◌, None, Some, IfOk, IfErr, codes, is_some};
 ghost use Rattle.std.specs.List.{list_any};
 ghost use Rattle.serde_json.specs.Find.{get};
@@ -54,7 +52,6 @@ fn names_keyword(tree: &Value) -> bool
 }
 
 /// A schema with `oneOf`, whose schemas have been read.
-#[inline(never)]
 pub(crate) fn assemble_one_of(
     alloc: Global,
     tree: &Value,
@@ -78,7 +75,6 @@ pub(crate) fn assemble_one_of(
 }
 
 /// A schema with `allOf`, whose schemas have been read.
-#[inline(never)]
 pub(crate) fn assemble_all_of(
     alloc: Global,
     tree: &Value,
@@ -100,7 +96,6 @@ pub(crate) fn assemble_all_of(
 }
 
 /// A schema with `anyOf`, whose schemas have been read.
-#[inline(never)]
 pub(crate) fn assemble_any_of(
     alloc: Global,
     tree: &Value,
@@ -121,7 +116,6 @@ pub(crate) fn assemble_any_of(
 }
 
 /// An array whose items have been read, with no content schema. With any that the tree has it is the array that the tree is.
-#[inline(never)]
 pub(crate) fn assemble_array(
     alloc: Global,
     tree: &Value,
@@ -147,7 +141,6 @@ pub(crate) fn assemble_array(
 
 /// An object whose properties have been read, with no content schema. With any that the tree has it is the object that the
 /// tree is.
-#[inline(never)]
 pub(crate) fn assemble_object(
     alloc: Global,
     tree: &Value,

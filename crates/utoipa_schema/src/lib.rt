@@ -2,13 +2,18 @@
 #![tactic(auto)]
 
 pub mod all_of;
+mod alternatives;
 pub mod any_of;
 pub mod array;
 mod assemble;
 pub mod conversions;
 mod copy;
+mod fill;
+mod members;
 pub mod object;
 pub mod one_of;
+mod outcomes;
+mod places;
 mod print;
 mod read;
 pub mod trees;

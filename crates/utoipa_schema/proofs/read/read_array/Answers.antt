@@ -1,29 +1,38 @@
-use Rattle.std.proofs.Common.{Some, ◌∙◌, sym, ap, arith}
+use Rattle.std.proofs.Common.{◌≡◌, [], ◌++◌, true, map, ap, ◌∙◌, rules, arith, codes}
+use Rattle.std.proofs.lemmas.List.{map-append}
 use Rattle.serde_json.specs.View.{view}
-use Rattle.utoipa_base.specs.Values.{schema_count}
-use Rattle.utoipa_base.proofs.RowLists.{passes_reads}
-use Rattle.utoipa_schema.specs.Docs.{array_doc}
-use Rattle.utoipa_base.proofs.Readers.{passes_refusal}
-use Rattle.utoipa_schema.proofs.SchemaCounts.{no_array, array_content_counts}
+use Rattle.utoipa_schema.specs.Places.{places, total, read_place, of_array, of_content}
+use Rattle.utoipa_schema.proofs.Fitting.{reads_from}
 use Rattle.utoipa_schema.proofs.SchemaMembers.{schema_values}
+use Rattle.utoipa_schema.proofs.Walks.{total-append, array_fewer, one_fewer}
 use Rattle.utoipa_schema.proofs.read.read_array.Goals as goal
 
-pub returns-in_err-array : goal.returns-in_err-array
-returns-in_err-array c = passes_refusal _ _ _ _ _ _ _ c.from_residual.ensures.1 c.in_err-array.ensures.err c.in_err-array.ensures.grows (omega (arith, schema_values (view c.args.tree.now), c.in_err-array.ensures.at_most))
+pub returns-in_err-push_of_array : goal.returns-in_err-push_of_array
+returns-in_err-push_of_array c = record { ok = search rules; err = search rules; grows = omega arith; at_most = omega arith; at_least = search rules }
 
-pub returns-in_err-content_schema : goal.returns-in_err-content_schema
-returns-in_err-content_schema c =
-    passes_reads _ _ _ _ _ _ _ _ _ _ _ c.from_residual-in_err-content_schema.ensures.1 c.in_err-content_schema.ensures (no_array (view c.args.tree.now)) c.in_ok-array.ensures.grows
-    (omega (arith, schema_values (view c.args.tree.now), c.in_ok-array.ensures.at_most))
+pub returns-in_err-push_one : goal.returns-in_err-push_one
+returns-in_err-push_one c = record { ok = search rules; err = search rules; grows = omega arith; at_most = omega arith; at_least = search rules }
+
+pub returns-in_err-outcomes : goal.returns-in_err-outcomes
+returns-in_err-outcomes c =
+    let d = (view c.args.tree.now) in
+    let none : c.new-roots.result.items ≡ [] = search rules in
+    let first : places c.push_of_array.new.stack.items ≡ of_array d = c.in_ok-push_of_array.ensures ∙ ap (λ xs. places xs ++ of_array d) none in
+    let roots : places c.push_one.new.stack.items ≡ of_array d ++ of_content d = c.in_ok-push_one.ensures ∙ ap (λ ps. ps ++ of_content d) first in
+    record { ok = search rules; err = search rules; grows = c.read_places.ensures.grows; at_most = omega (arith, c.read_places.ensures.at_most, ap total roots, schema_values d, array_fewer d, one_fewer true (codes "contentSchema") d, total-append (of_array d) (of_content d)); at_least = search rules }
+
+pub whole_array_from-requires : goal.whole_array_from-requires
+whole_array_from-requires c =
+    let d = (view c.args.tree.now) in
+    let none : c.new-roots.result.items ≡ [] = search rules in
+    let first : places c.push_of_array.new.stack.items ≡ of_array d = c.in_ok-push_of_array.ensures ∙ ap (λ xs. places xs ++ of_array d) none in
+    let roots : places c.push_one.new.stack.items ≡ of_array d ++ of_content d = c.in_ok-push_one.ensures ∙ ap (λ ps. ps ++ of_content d) first in
+    c.in_ok-outcomes.ensures.read ∙ ap (map read_place) roots ∙ map-append read_place (of_array d) (of_content d)
 
 pub returns : goal.returns
 returns c =
-    let content = c.in_ok-content_schema.ensures in
-    let counts = array_content_counts c.in_ok-array.array c.in_ok-content_schema.content_schema c.in_ok-array.ensures.without in
-    record {
-      ok = c.in_ok-array.ensures.ok c.in_ok-content_schema.content_schema content.ok ∙ ap (λ x. Some (array_doc x)) (sym c.array_with_content_schema.ensures);
-      err = tt;
-      grows = omega (arith, c.in_ok-array.ensures.grows, content.grows);
-      at_most = omega (arith, schema_values (view c.args.tree.now), c.in_ok-array.ensures.at_most, content.at_most);
-      at_least = λ below. omega (arith, counts, ap (λ x. schema_count (array_doc x)) c.array_with_content_schema.ensures, content.at_least below, c.in_ok-array.ensures.at_least (omega (arith, content.grows, below)));
-    }
+    let d = (view c.args.tree.now) in
+    let none : c.new-roots.result.items ≡ [] = search rules in
+    let first : places c.push_of_array.new.stack.items ≡ of_array d = c.in_ok-push_of_array.ensures ∙ ap (λ xs. places xs ++ of_array d) none in
+    let roots : places c.push_one.new.stack.items ≡ of_array d ++ of_content d = c.in_ok-push_one.ensures ∙ ap (λ ps. ps ++ of_content d) first in
+    reads_from _ c.whole_array_from.result _ _ _ _ _ _ c.whole_array_from.ensures c.read_places.ensures.grows c.read_places.ensures.at_most (omega (arith, ap total roots, schema_values d, array_fewer d, one_fewer true (codes "contentSchema") d, total-append (of_array d) (of_content d))) c.in_ok-outcomes.ensures.at_least

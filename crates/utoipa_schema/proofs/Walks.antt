@@ -1,0 +1,223 @@
+-- The walk that finds the places of a tree, and its way back.
+use Rattle.std.proofs.Common.{suc, ◌≡◌, ℕ, ◌+◌, ◌<◌, ◌≤◌, List, [], ◌∷◌, ◌++◌, length, map, Bool, Option, Some, None, option_map, is_some, true, false, refl, sym, ap, ◌∙◌, arith, append_assoc, codes}
+use Rattle.std.proofs.lemmas.List.{reverse-append, map-append}
+use Rattle.serde_json.specs.Data.{Data, null, boolean, number, string, array, object, Items, no_items, item, Members, no_members, member}
+use Rattle.serde_json.specs.Find.{get, as_array, as_object, as_null, as_bool}
+use Rattle.serde_json.specs.View.{view, items_view, members_view}
+use Rattle.serde_json.specs.declared.value.Value.{Value}
+use Rattle.serde_json.proofs.Views.{Entry}
+use Rattle.utoipa_base.specs.Values.{values, items_values, members_values, values_of, values_at}
+use Rattle.utoipa_schema.specs.Places.{Place, items_list, members_list, elements, entries, alone, part, at_each, in_list, in_map, in_one, of_combinations, of_array, of_object, of_content, inner, total, Reached, Walked}
+use Rattle.utoipa_schema.proofs.SchemaMembers.{schema_values}
+
+-- ---- the elements of a list and the values of an object
+
+pub items_list-view : (vs : List Value) → items_list (items_view vs) ≡ map view vs
+items_list-view [] = refl
+items_list-view (v ∷ vs) = ap (λ ds. view v ∷ ds) (items_list-view vs)
+
+pub elements-array : (d : Data) (ds : Items) → Some ds ≡ as_array d → elements d ≡ items_list ds
+elements-array null ds e = cc
+elements-array (boolean b) ds e = cc
+elements-array (number n) ds e = cc
+elements-array (string s) ds e = cc
+elements-array (array es) ds e = (let q : es ≡ ds = cc in ap items_list q)
+elements-array (object ms) ds e = cc
+
+pub elements-none : (d : Data) → as_array d ≡ None → elements d ≡ []
+elements-none null e = refl
+elements-none (boolean b) e = refl
+elements-none (number n) e = refl
+elements-none (string s) e = refl
+elements-none (array es) e = cc
+elements-none (object ms) e = refl
+
+pub entries-object : (d : Data) (ms : Members) → Some ms ≡ as_object d → entries d ≡ members_list ms
+entries-object null ms e = cc
+entries-object (boolean b) ms e = cc
+entries-object (number n) ms e = cc
+entries-object (string s) ms e = cc
+entries-object (array es) ms e = cc
+entries-object (object ns) ms e = (let q : ns ≡ ms = cc in ap members_list q)
+
+pub entries-none : (d : Data) → as_object d ≡ None → entries d ≡ []
+entries-none null e = refl
+entries-none (boolean b) e = refl
+entries-none (number n) e = refl
+entries-none (string s) e = refl
+entries-none (array es) e = refl
+entries-none (object ms) e = cc
+
+pub alone-null : (d : Data) → is_some (as_null d) ≡ true → alone d ≡ []
+alone-null null e = refl
+alone-null (boolean b) e = cc
+alone-null (number n) e = cc
+alone-null (string s) e = cc
+alone-null (array es) e = cc
+alone-null (object ms) e = cc
+
+pub alone-boolean : (d : Data) → is_some (as_bool d) ≡ true → alone d ≡ []
+alone-boolean null e = cc
+alone-boolean (boolean b) e = refl
+alone-boolean (number n) e = cc
+alone-boolean (string s) e = cc
+alone-boolean (array es) e = cc
+alone-boolean (object ms) e = cc
+
+pub alone-other : (d : Data) → is_some (as_null d) ≡ false → is_some (as_bool d) ≡ false → alone d ≡ d ∷ []
+alone-other null e f = cc
+alone-other (boolean b) e f = cc
+alone-other (number n) e f = refl
+alone-other (string s) e f = refl
+alone-other (array es) e f = refl
+alone-other (object ms) e f = refl
+
+pub members_length : (es : List Entry) → length (members_list (members_view es)) ≡ length es
+members_length [] = refl
+members_length (e ∷ es) = ap (λ n. suc n) (members_length es)
+
+pub items_length : (vs : List Value) → length (items_list (items_view vs)) ≡ length vs
+items_length [] = refl
+items_length (v ∷ vs) = ap (λ n. suc n) (items_length vs)
+
+-- ---- values
+
+pub total-append : (xs ys : List Place) → total (xs ++ ys) ≡ total xs + total ys
+unfolding total
+total-append [] ys = omega arith
+total-append (x ∷ xs) ys = omega (arith, total-append xs ys)
+
+pub total-last : (xs : List Place) (p : Place) → total (xs ++ p ∷ []) ≡ total xs + values p.1
+unfolding total
+total-last xs p = total-append xs (p ∷ []) ∙ omega arith
+
+pub total-one : (p : Place) → total (p ∷ []) ≡ values p.1
+unfolding total
+total-one p = omega arith
+
+total-items : (b : Bool) (ds : Items) → total (at_each b (items_list ds)) ≡ items_values ds
+unfolding total values items_values
+total-items b no_items = refl
+total-items b (item d ds) = ap (λ n. values d + n) (total-items b ds)
+
+total-members : (b : Bool) (ms : Members) → total (at_each b (members_list ms)) ≡ members_values ms
+unfolding total values members_values
+total-members b no_members = refl
+total-members b (member k d ms) = ap (λ n. values d + n) (total-members b ms)
+
+pub elements_fewer : (b : Bool) (d : Data) → total (at_each b (elements d)) ≤ values d
+unfolding total values
+elements_fewer b null = omega arith
+elements_fewer b (boolean c) = omega arith
+elements_fewer b (number n) = omega arith
+elements_fewer b (string s) = omega arith
+elements_fewer b (array ds) = omega (arith, total-items b ds)
+elements_fewer b (object ms) = omega arith
+
+pub entries_fewer : (b : Bool) (d : Data) → total (at_each b (entries d)) ≤ values d
+unfolding total values
+entries_fewer b null = omega arith
+entries_fewer b (boolean c) = omega arith
+entries_fewer b (number n) = omega arith
+entries_fewer b (string s) = omega arith
+entries_fewer b (array ds) = omega arith
+entries_fewer b (object ms) = omega (arith, total-members b ms)
+
+pub alone_fewer : (b : Bool) (d : Data) → total (at_each b (alone d)) ≤ values d
+unfolding total values
+alone_fewer b null = omega arith
+alone_fewer b (boolean c) = omega arith
+alone_fewer b (number n) = omega arith
+alone_fewer b (string s) = omega arith
+alone_fewer b (array ds) = omega arith
+alone_fewer b (object ms) = omega arith
+
+part_fewer : (b : Bool) (f : Data → List Data) → ((d : Data) → total (at_each b (f d)) ≤ values d) → (o : Option Data) → total (at_each b (part f o)) ≤ values_of o
+unfolding total values_of
+part_fewer b f h None = omega arith
+part_fewer b f h (Some d) = h d
+
+pub list_fewer : (b : Bool) (name : List ℕ) (d : Data) → total (in_list b name d) ≤ values_at name d
+list_fewer b name d = part_fewer b elements (elements_fewer b) (get name d)
+
+pub map_fewer : (b : Bool) (name : List ℕ) (d : Data) → total (in_map b name d) ≤ values_at name d
+map_fewer b name d = part_fewer b entries (entries_fewer b) (get name d)
+
+pub one_fewer : (b : Bool) (name : List ℕ) (d : Data) → total (in_one b name d) ≤ values_at name d
+one_fewer b name d = part_fewer b alone (alone_fewer b) (get name d)
+
+pub combinations_fewer : (d : Data) → total (of_combinations d) ≤ values_at (codes "oneOf") d + (values_at (codes "allOf") d + values_at (codes "anyOf") d)
+unfolding of_combinations
+combinations_fewer d =
+    let a = in_list true (codes "oneOf") d in
+    let b = in_list true (codes "allOf") d in
+    let c = in_list true (codes "anyOf") d in
+    omega (arith, total-append a (b ++ c), total-append b c, list_fewer true (codes "oneOf") d, list_fewer true (codes "allOf") d, list_fewer true (codes "anyOf") d)
+
+pub array_fewer : (d : Data) → total (of_array d) ≤ values_at (codes "items") d + values_at (codes "prefixItems") d
+unfolding of_array
+array_fewer d =
+    let a = in_one true (codes "items") d in
+    let b = in_list false (codes "prefixItems") d in
+    omega (arith, total-append a b, one_fewer true (codes "items") d, list_fewer false (codes "prefixItems") d)
+
+pub object_fewer : (d : Data) → total (of_object d) ≤ values_at (codes "properties") d + (values_at (codes "additionalProperties") d + values_at (codes "propertyNames") d)
+unfolding of_object
+object_fewer d =
+    let a = in_map true (codes "properties") d in
+    let b = in_one true (codes "additionalProperties") d in
+    let c = in_one false (codes "propertyNames") d in
+    omega (arith, total-append a (b ++ c), total-append b c, map_fewer true (codes "properties") d, one_fewer true (codes "additionalProperties") d, one_fewer false (codes "propertyNames") d)
+
+-- the inner places have together fewer values than the tree
+pub inner_fewer : (d : Data) → total (inner d) < values d
+unfolding inner
+inner_fewer d =
+    let a = of_combinations d in
+    let b = of_array d in
+    let c = of_object d in
+    let e = of_content d in
+    omega (arith, schema_values d, total-append a (b ++ (c ++ e)), total-append b (c ++ e), total-append c e, combinations_fewer d, array_fewer d, object_fewer d, one_fewer true (codes "contentSchema") d)
+
+-- ---- the walk
+
+pub at_roots : (roots : List Place) → Walked roots [] roots
+unfolding Reached
+at_roots roots = refl
+
+-- one more row, and its inner places on the stack
+pub visit : (roots : List Place) (p : Place) (table rest : List Place) → Walked roots table (rest ++ p ∷ []) → Walked roots (table ++ p ∷ []) (rest ++ inner p.1)
+unfolding Reached
+visit roots p table rest h = rw (reverse-append table (p ∷ [])) (rest, refl, h)
+
+-- the way back: the last row's inner places are at the end of the stack, and it takes their place
+pub unvisit : (roots : List Place) (p : Place) (table stack : List Place) → Walked roots (table ++ p ∷ []) stack → (rest : List Place) × (stack ≡ rest ++ inner p.1) × Walked roots table (rest ++ p ∷ [])
+unfolding Reached
+unvisit roots p table stack h = rw (reverse-append table (p ∷ [])) at h
+
+pub end : (roots stack : List Place) → Walked roots [] stack → stack ≡ roots
+unfolding Reached
+end roots stack h = h
+
+pub inner-parts : (d : Data) → inner d ≡ of_combinations d ++ (of_array d ++ (of_object d ++ of_content d))
+unfolding inner
+inner-parts d = refl
+
+pub combinations-parts : (d : Data) → of_combinations d ≡ in_list true (codes "oneOf") d ++ (in_list true (codes "allOf") d ++ in_list true (codes "anyOf") d)
+unfolding of_combinations
+combinations-parts d = refl
+
+pub array-parts : (d : Data) → of_array d ≡ in_one true (codes "items") d ++ in_list false (codes "prefixItems") d
+unfolding of_array
+array-parts d = refl
+
+pub object-parts : (d : Data) → of_object d ≡ in_map true (codes "properties") d ++ (in_one true (codes "additionalProperties") d ++ in_one false (codes "propertyNames") d)
+unfolding of_object
+object-parts d = refl
+
+-- parts put on the stack after one another
+pub joined_two : {X : Type 0} (s a b x y : List X) → x ≡ s ++ a → y ≡ x ++ b → y ≡ s ++ (a ++ b)
+joined_two s a b x y ex ey = ey ∙ ap (λ l. l ++ b) ex ∙ append_assoc s a b
+
+pub joined_three : {X : Type 0} (s a b c x y z : List X) → x ≡ s ++ a → y ≡ x ++ b → z ≡ y ++ c → z ≡ s ++ (a ++ (b ++ c))
+joined_three s a b c x y z ex ey ez = joined_two s a (b ++ c) x z ex (joined_two x b c y z ey ez)

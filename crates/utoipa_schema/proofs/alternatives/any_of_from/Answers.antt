@@ -1,0 +1,19 @@
+use Rattle.std.proofs.Common.{◌∙◌, sym, ap}
+use Rattle.utoipa_base.specs.Kinds.{any_of_schema}
+use Rattle.utoipa_base.specs.Values.{schema_count}
+use Rattle.utoipa_base.proofs.ByRows.{table_refused, fields-first, read-no_object}
+use Rattle.utoipa_schema.specs.Docs.{places_doc, schema_doc, any_of_doc}
+use Rattle.utoipa_schema.proofs.Fitting.{fits_refused, passes_fits, table_fits_as}
+use Rattle.utoipa_schema.proofs.MemberCounts.{any_of_counts}
+use Rattle.utoipa_schema.proofs.SchemaCounts.{if_ok}
+use Rattle.utoipa_schema.proofs.alternatives.any_of_from.Goals as goal
+
+pub returns-then-not-is_object : goal.returns-then-not-is_object
+returns-then-not-is_object c = fits_refused _ _ _ _ (read-no_object any_of_schema _ (sym c.is_object.ensures ∙ c.if-not-is_object.true))
+
+pub returns-in_err-items : goal.returns-in_err-items
+returns-in_err-items c = passes_fits _ _ _ _ _ _ _ _ c.from_residual.ensures.1 c.in_err-items.ensures (λ h. table_refused any_of_schema _ (fields-first _ _ _ h))
+
+pub returns : goal.returns
+returns c = table_fits_as (places_doc schema_doc) any_of_doc c.in_ok-items.items c.assemble_any_of.result _ _ _ c.in_ok-items.ensures c.assemble_any_of.ensures.ok c.assemble_any_of.ensures.err
+    (if_ok _ _ c.assemble_any_of.result c.assemble_any_of.ensures.kept (λ o k. any_of_counts o ∙ ap (λ v. schema_count (places_doc schema_doc v)) k))

@@ -1,0 +1,112 @@
+//! The table of places, filled from the last row to the first.
+//!
+//! The walk puts each place into the table after the one that it stands in. So where a row is the last that is left, its inner
+//! places have been read, and their outcomes are the last: they are taken off, and the row's own outcome takes their place.
+ghost use Rattle.std.specs.Prelude.{◌≡◌, ◌≤◌, ◌<◌, ◌+◌, IfOk, List, [], map, option_map, length, if◌then◌else◌, nat_lt};
+ghost use Rattle.serde_json.specs.View.{view};
+ghost use Rattle.utoipa_base.specs.Docs.{own_doc};
+ghost use Rattle.utoipa_base.specs.Kinds.{schema, ref_or};
+ghost use Rattle.utoipa_base.specs.Reading.{read};
+ghost use Rattle.utoipa_schema.specs.Outcomes.{documents, outcome_doc, counts, count_of, AreInner, counts_of_inner};
+ghost use Rattle.utoipa_schema.specs.Places.{Place, places, read_by, read_place as place_document, total, Walked};
+
+use crate::alternatives::{if_fitting, schema_from};
+use crate::outcomes::{InnerOutcomes, Outcomes, take_inner};
+use crate::places::{SchemaPlace, walk};
+use crate::types::Schema;
+use serde_json::Value;
+use std::alloc::{AllocError, Global};
+use utoipa_base::{Readings, Ref, RefOr, Tree};
+
+/// What some places were read as, in their order, with all that stands inside. Fails where memory runs out.
+pub(crate) fn read_places(
+    alloc: Global,
+    roots: Vec<SchemaPlace<'_>>,
+    readings: &mut Readings,
+) -> Result<Outcomes, AllocError>
+    ensures read { IfOk result (λ filled. documents filled.items ≡ map place_document (places roots.entry.items)) }
+    ensures grows { readings.old ≤ readings.new }
+    ensures at_most { readings.new ≤ readings.old + total (places roots.entry.items) }
+    ensures at_least { IfOk result (λ filled. readings.new < u64.MAX → readings.old + counts (documents filled.items) ≤ readings.new) }
+{
+    let table = walk(alloc, roots)?;
+    fill(alloc, table, readings)
+}
+
+/// Reads the places of a table, from the last row to the first: the outcomes of the roots of the walk that made it. Fails
+/// where memory runs out.
+fn fill(
+    alloc: Global,
+    mut table: Vec<SchemaPlace<'_>>,
+    readings: &mut Readings,
+) -> Result<Outcomes, AllocError>
+    requires { (roots : List Place) × Walked roots (places table.items) [] }
+    ensures read { IfOk result (λ filled. (roots : List Place) → Walked roots (places table.entry.items) [] → documents filled.items ≡ map place_document roots) }
+    ensures grows { readings.old ≤ readings.new }
+    ensures at_most { readings.new ≤ readings.old + length table.entry.items }
+    ensures at_least { IfOk result (λ filled. readings.new < u64.MAX → readings.old + counts (documents filled.items) ≤ readings.new) }
+{
+    let mut filled = Vec::new(alloc);
+    'fill: while let Some(place) = table.pop() {
+        let inner = take_inner(place.tree, &mut filled)?;
+        let outcome = read_place(alloc, place.tree, place.may_be_reference, inner, readings)?;
+        filled.push(outcome)?;
+    }
+    Ok(filled)
+}
+
+/// Reads one place, whose inner places have been read: none where it fits nothing. Fails where memory runs out.
+///
+/// It counts the place at entry, and calls itself for no place inside.
+fn read_place(
+    alloc: Global,
+    tree: &Value,
+    may_be_reference: bool,
+    inner: InnerOutcomes,
+    readings: &mut Readings,
+) -> Result<Option<RefOr<Schema>>, AllocError>
+    requires { AreInner (view tree.now) inner }
+    ensures read { IfOk result (λ o. outcome_doc o ≡ read_by may_be_reference (view tree.now)) }
+    ensures ticked { readings.new ≡ (if nat_lt readings.old u64.MAX then readings.old + 1 else readings.old) }
+    ensures counted { IfOk result (λ o. count_of (outcome_doc o) ≤ 1 + counts_of_inner inner) }
+{
+    readings.tick();
+    if may_be_reference {
+        reference_or_schema_from(alloc, tree, inner)
+    } else {
+        own_schema_from(alloc, tree, inner)
+    }
+}
+
+/// A reference, or else a schema, or none. Fails where memory runs out.
+fn reference_or_schema_from(
+    alloc: Global,
+    tree: &Value,
+    inner: InnerOutcomes,
+) -> Result<Option<RefOr<Schema>>, AllocError>
+    requires { AreInner (view tree.now) inner }
+    ensures read { IfOk result (λ o. outcome_doc o ≡ read (ref_or schema) (view tree.now)) }
+    ensures counted { IfOk result (λ o. count_of (outcome_doc o) ≤ 1 + counts_of_inner inner) }
+{
+    let mut uncounted = Readings::new();
+    match if_fitting(Ref::read_plain(alloc, tree, &mut uncounted))? {
+        Some(reference) => Ok(Some(RefOr::Ref(reference))),
+        None => own_schema_from(alloc, tree, inner),
+    }
+}
+
+/// A schema, or none. Fails where memory runs out.
+fn own_schema_from(
+    alloc: Global,
+    tree: &Value,
+    inner: InnerOutcomes,
+) -> Result<Option<RefOr<Schema>>, AllocError>
+    requires { AreInner (view tree.now) inner }
+    ensures read { IfOk result (λ o. outcome_doc o ≡ option_map own_doc (read schema (view tree.now))) }
+    ensures counted { IfOk result (λ o. count_of (outcome_doc o) ≤ 1 + counts_of_inner inner) }
+{
+    match schema_from(alloc, tree, inner)? {
+        Some(schema) => Ok(Some(RefOr::T(schema))),
+        None => Ok(None),
+    }
+}

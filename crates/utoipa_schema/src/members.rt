@@ -1,0 +1,299 @@
+//! The members of a schema that hold schemas, whose places have been read before.
+ghost use Rattle.std.specs.Prelude.{◌≡◌, option_map, map, codes, true, false};
+ghost use Rattle.serde_json.specs.View.{view};
+ghost use Rattle.utoipa_base.specs.Fields.{field};
+ghost use Rattle.utoipa_base.specs.Kinds.{schema, array_items, additional_properties as additional_kind, ref_or, list_of, map_of, required, optional, defaulted};
+ghost use Rattle.utoipa_base.specs.Reading.{read};
+ghost use Rattle.utoipa_base.specs.Refs.{ref_or_doc};
+ghost use Rattle.utoipa_base.specs.Tables.{row};
+ghost use Rattle.utoipa_base.specs.Views.{boxed, option_of, list_of_docs, map_of_docs};
+ghost use Rattle.utoipa_schema.specs.Choice.{content_schema_doc};
+ghost use Rattle.utoipa_schema.specs.Docs.{places_doc, additional_properties_doc, schema_doc, array_items_doc};
+ghost use Rattle.utoipa_schema.specs.Outcomes.{documents, outcome_doc, own_part, counts, last, all_of_list, Fits};
+ghost use Rattle.utoipa_schema.specs.Places.{read_place, at_each, elements, entries, alone, in_list, in_map, in_one, of_content};
+
+use crate::outcomes::Outcomes;
+use crate::types::{AdditionalProperties, ArrayItems, Schema};
+use serde_json::Value;
+use std::alloc::Global;
+use std::collections::BTreeMap;
+use utoipa_base::{ReadFault, RefOr};
+
+/// All places, where each fits something. Fails with `Alternative` where one does not.
+fn all_places(alloc: Global, outcomes: Outcomes) -> Result<Vec<RefOr<Schema>>, ReadFault>
+    ensures { Fits (all_of_list (documents outcomes.items)) (places_doc schema_doc) result (counts (documents outcomes.items)) }
+{
+    let mut list = Vec::new(alloc);
+    for outcome in outcomes {
+        match outcome {
+            Some(place) => list.push(place)?,
+            None => return Err(ReadFault::Alternative),
+        }
+    }
+    Ok(list)
+}
+
+/// The schema that a place holds, where it is no reference and fits one.
+fn own_schema(outcome: Option<RefOr<Schema>>) -> Option<Schema>
+    ensures { option_map schema_doc result ≡ own_part (outcome_doc outcome) }
+{
+    match outcome {
+        Some(RefOr::T(schema)) => Some(schema),
+        Some(RefOr::Ref(_)) | None => None,
+    }
+}
+
+/// All schemas, where each place holds one. Fails with `Alternative` where one does not.
+fn all_schemas(alloc: Global, outcomes: Outcomes) -> Result<Vec<Schema>, ReadFault>
+    ensures { Fits (all_of_list (map own_part (documents outcomes.items))) (list_of_docs schema_doc) result (counts (documents outcomes.items)) }
+{
+    let mut list = Vec::new(alloc);
+    for outcome in outcomes {
+        match own_schema(outcome) {
+            Some(schema) => list.push(schema)?,
+            None => return Err(ReadFault::Alternative),
+        }
+    }
+    Ok(list)
+}
+
+/// The one place that there is. Fails with `Alternative` where it fits nothing, and where there is none.
+pub(crate) fn only_place(mut outcomes: Outcomes) -> Result<RefOr<Schema>, ReadFault>
+    ensures { Fits (last (documents outcomes.items)) (ref_or_doc schema schema_doc) result (counts (documents outcomes.items)) }
+{
+    let Some(outcome) = outcomes.pop() else {
+        return Err(ReadFault::Alternative);
+    };
+    match outcome {
+        Some(place) => Ok(place),
+        None => Err(ReadFault::Alternative),
+    }
+}
+
+/// The schema in the one place that there is. Fails with `Alternative` where it holds none, and where there is no place.
+pub(crate) fn only_schema(mut outcomes: Outcomes) -> Result<Schema, ReadFault>
+    ensures { Fits (own_part (last (documents outcomes.items))) schema_doc result (counts (documents outcomes.items)) }
+{
+    let Some(outcome) = outcomes.pop() else {
+        return Err(ReadFault::Alternative);
+    };
+    match own_schema(outcome) {
+        Some(schema) => Ok(schema),
+        None => Err(ReadFault::Alternative),
+    }
+}
+
+/// A list of references and schemas. Fails where the tree is no list, and where an element is neither.
+pub(crate) fn places_in_list(
+    alloc: Global,
+    tree: &Value,
+    outcomes: Outcomes,
+) -> Result<Vec<RefOr<Schema>>, ReadFault>
+    requires { documents outcomes.items ≡ map read_place (at_each true (elements (view tree.now))) }
+    ensures { Fits (read (list_of (ref_or schema)) (view tree.now)) (places_doc schema_doc) result (counts (documents outcomes.items)) }
+{
+    let Some(_list) = tree.as_array() else {
+        return Err(ReadFault::Kind("list"));
+    };
+    all_places(alloc, outcomes)
+}
+
+/// A list of schemas. Fails where the tree is no list, and where an element is no schema.
+fn schemas_in_list(
+    alloc: Global,
+    tree: &Value,
+    outcomes: Outcomes,
+) -> Result<Vec<Schema>, ReadFault>
+    requires { documents outcomes.items ≡ map read_place (at_each false (elements (view tree.now))) }
+    ensures { Fits (read (list_of schema) (view tree.now)) (list_of_docs schema_doc) result (counts (documents outcomes.items)) }
+{
+    let Some(_list) = tree.as_array() else {
+        return Err(ReadFault::Kind("list"));
+    };
+    all_schemas(alloc, outcomes)
+}
+
+/// References and schemas by their names. Fails where the tree is no object, and where a member is neither.
+pub(crate) fn places_by_name(
+    alloc: Global,
+    tree: &Value,
+    outcomes: Outcomes,
+) -> Result<BTreeMap<String, RefOr<Schema>>, ReadFault>
+    requires { documents outcomes.items ≡ map read_place (at_each true (entries (view tree.now))) }
+    ensures { Fits (read (map_of (ref_or schema)) (view tree.now)) (map_of_docs (ref_or_doc schema schema_doc)) result (counts (documents outcomes.items)) }
+{
+    let Some(members) = tree.as_object() else {
+        return Err(ReadFault::Kind("map"));
+    };
+    let mut outcomes = outcomes.into_iter();
+    let mut map = BTreeMap::new(alloc);
+    for (key, _member) in members.iter() {
+        let Some(outcome) = outcomes.next() else {
+            return Err(ReadFault::Alternative);
+        };
+        let Some(place) = outcome else {
+            return Err(ReadFault::Alternative);
+        };
+        let name = key.clone()?;
+        drop(map.insert(name, place)?);
+    }
+    Ok(map)
+}
+
+/// What the items of an array are: `false`, a reference, or a schema. Fails where the tree is none of these.
+pub(crate) fn items_from(
+    alloc: Global,
+    tree: &Value,
+    outcomes: Outcomes,
+) -> Result<ArrayItems, ReadFault>
+    requires { documents outcomes.items ≡ map read_place (at_each true (alone (view tree.now))) }
+    ensures { Fits (read array_items (view tree.now)) array_items_doc result (counts (documents outcomes.items)) }
+{
+    match tree.as_bool() {
+        Some(false) => Ok(ArrayItems::False),
+        Some(true) => Err(ReadFault::Alternative),
+        None => {
+            let place = only_place(outcomes)?;
+            Ok(ArrayItems::RefOrSchema(Box::new(alloc, place)?))
+        }
+    }
+}
+
+/// What the properties are that an object does not list: true, false, a reference, or a schema. Fails where the tree is none
+/// of these.
+pub(crate) fn additional_from(
+    tree: &Value,
+    outcomes: Outcomes,
+) -> Result<AdditionalProperties<Schema>, ReadFault>
+    requires { documents outcomes.items ≡ map read_place (at_each true (alone (view tree.now))) }
+    ensures { Fits (read additional_kind (view tree.now)) (additional_properties_doc schema_doc) result (counts (documents outcomes.items)) }
+{
+    match tree.as_bool() {
+        Some(free) => Ok(AdditionalProperties::FreeForm(free)),
+        None => Ok(AdditionalProperties::RefOr(only_place(outcomes)?)),
+    }
+}
+
+/// The schemas that a combination combines: its member of that name. Fails where there is none, or not of its kind.
+pub(crate) fn combined_from(
+    alloc: Global,
+    tree: &Value,
+    name: &'static str,
+    outcomes: Outcomes,
+) -> Result<Vec<RefOr<Schema>>, ReadFault>
+    requires { documents outcomes.items ≡ map read_place (in_list true name.now (view tree.now)) }
+    ensures { Fits (field (row name.now required (list_of (ref_or schema))) (view tree.now)) (places_doc schema_doc) result (counts (documents outcomes.items)) }
+{
+    match tree.get(name) {
+        Some(member) => places_in_list(alloc, member, outcomes),
+        None => Err(ReadFault::Missing(name)),
+    }
+}
+
+/// The items of an array: the member `items`. Fails where there is none, or not of its kind.
+pub(crate) fn array_items_from(
+    alloc: Global,
+    tree: &Value,
+    outcomes: Outcomes,
+) -> Result<ArrayItems, ReadFault>
+    requires { documents outcomes.items ≡ map read_place (in_one true (codes "items") (view tree.now)) }
+    ensures { Fits (field (row (codes "items") required array_items) (view tree.now)) array_items_doc result (counts (documents outcomes.items)) }
+{
+    match tree.get("items") {
+        Some(member) => items_from(alloc, member, outcomes),
+        None => Err(ReadFault::Missing("items")),
+    }
+}
+
+/// The schemas of the first items: the member `prefixItems`. Fails where it is not of its kind.
+pub(crate) fn prefix_items_from(
+    alloc: Global,
+    tree: &Value,
+    outcomes: Outcomes,
+) -> Result<Vec<Schema>, ReadFault>
+    requires { documents outcomes.items ≡ map read_place (in_list false (codes "prefixItems") (view tree.now)) }
+    ensures { Fits (field (row (codes "prefixItems") defaulted (list_of schema)) (view tree.now)) (list_of_docs schema_doc) result (counts (documents outcomes.items)) }
+{
+    match tree.get("prefixItems") {
+        Some(member) => schemas_in_list(alloc, member, outcomes),
+        None => Ok(Vec::new(alloc)),
+    }
+}
+
+/// The schemas of the properties: the member `properties`. Fails where it is not of its kind.
+pub(crate) fn properties_from(
+    alloc: Global,
+    tree: &Value,
+    outcomes: Outcomes,
+) -> Result<BTreeMap<String, RefOr<Schema>>, ReadFault>
+    requires { documents outcomes.items ≡ map read_place (in_map true (codes "properties") (view tree.now)) }
+    ensures { Fits (field (row (codes "properties") defaulted (map_of (ref_or schema))) (view tree.now)) (map_of_docs (ref_or_doc schema schema_doc)) result (counts (documents outcomes.items)) }
+{
+    match tree.get("properties") {
+        Some(member) => places_by_name(alloc, member, outcomes),
+        None => Ok(BTreeMap::new(alloc)),
+    }
+}
+
+/// What the other properties are: the member `additionalProperties`. Fails where it is not of its kind.
+pub(crate) fn additional_properties_from(
+    alloc: Global,
+    tree: &Value,
+    outcomes: Outcomes,
+) -> Result<Option<Box<AdditionalProperties<Schema>>>, ReadFault>
+    requires { documents outcomes.items ≡ map read_place (in_one true (codes "additionalProperties") (view tree.now)) }
+    ensures { Fits (field (row (codes "additionalProperties") optional additional_kind) (view tree.now)) (option_of (boxed (additional_properties_doc schema_doc))) result (counts (documents outcomes.items)) }
+{
+    match tree.get("additionalProperties") {
+        Some(member) => {
+            if member.is_null() {
+                return Ok(None);
+            }
+            let value = additional_from(member, outcomes)?;
+            Ok(Some(Box::new(alloc, value)?))
+        }
+        None => Ok(None),
+    }
+}
+
+/// What the names of properties are: the member `propertyNames`. Fails where it is not of its kind.
+pub(crate) fn property_names_from(
+    alloc: Global,
+    tree: &Value,
+    outcomes: Outcomes,
+) -> Result<Option<Box<Schema>>, ReadFault>
+    requires { documents outcomes.items ≡ map read_place (in_one false (codes "propertyNames") (view tree.now)) }
+    ensures { Fits (field (row (codes "propertyNames") optional schema) (view tree.now)) (option_of (boxed schema_doc)) result (counts (documents outcomes.items)) }
+{
+    match tree.get("propertyNames") {
+        Some(member) => {
+            if member.is_null() {
+                return Ok(None);
+            }
+            let value = only_schema(outcomes)?;
+            Ok(Some(Box::new(alloc, value)?))
+        }
+        None => Ok(None),
+    }
+}
+
+/// The schema of a text's content: the member `contentSchema`. Fails where it is not of its kind.
+pub(crate) fn content_schema_from(
+    alloc: Global,
+    tree: &Value,
+    outcomes: Outcomes,
+) -> Result<Option<Box<RefOr<Schema>>>, ReadFault>
+    requires { documents outcomes.items ≡ map read_place (of_content (view tree.now)) }
+    ensures { Fits (field (row (codes "contentSchema") optional (ref_or schema)) (view tree.now)) content_schema_doc result (counts (documents outcomes.items)) }
+{
+    match tree.get("contentSchema") {
+        Some(member) => {
+            if member.is_null() {
+                return Ok(None);
+            }
+            let value = only_place(outcomes)?;
+            Ok(Some(Box::new(alloc, value)?))
+        }
+        None => Ok(None),
+    }
+}

@@ -1,0 +1,187 @@
+//! The places of schemas in a tree, and the walk that finds them.
+//!
+//! A place is a tree that may be a schema. A schema has inner places at its members that hold schemas. Null and a boolean are
+//! no place at a member that holds one, since neither is a schema.
+ghost use Rattle.std.specs.Prelude.{◌≡◌, ◌≤◌, ◌++◌, [], IfOk, OnOk, codes, length};
+ghost use Rattle.serde_json.specs.View.{view};
+ghost use Rattle.utoipa_schema.specs.Places.{places, elements, entries, alone, at_each, in_list, in_map, in_one, of_combinations, of_array, of_object, of_content, inner, total, Walked};
+
+use serde_json::Value;
+use std::alloc::{AllocError, Global};
+
+/// A place of a schema.
+#[derive(Drop)]
+pub(crate) struct SchemaPlace<'a> {
+    /// What stands there.
+    pub(crate) tree: &'a Value,
+    /// Whether it may be a reference.
+    pub(crate) may_be_reference: bool,
+}
+
+/// Puts each element of a list on a stack; anything else has none. Fails where memory runs out.
+pub(crate) fn push_elements<'a>(
+    stack: &mut Vec<SchemaPlace<'a>>,
+    tree: &'a Value,
+    may_be_reference: bool,
+) -> Result<(), AllocError>
+    ensures { OnOk result (places stack.new.items ≡ places stack.old.items ++ at_each may_be_reference (elements (view tree.now))) }
+{
+    if let Some(list) = tree.as_array() {
+        for tree in list {
+            stack.push(SchemaPlace {
+                tree,
+                may_be_reference,
+            })?;
+        }
+    }
+    Ok(())
+}
+
+/// Puts each value of an object on a stack; anything else has none. Fails where memory runs out.
+pub(crate) fn push_entries<'a>(
+    stack: &mut Vec<SchemaPlace<'a>>,
+    tree: &'a Value,
+    may_be_reference: bool,
+) -> Result<(), AllocError>
+    ensures { OnOk result (places stack.new.items ≡ places stack.old.items ++ at_each may_be_reference (entries (view tree.now))) }
+{
+    if let Some(map) = tree.as_object() {
+        for (_name, tree) in map.iter() {
+            stack.push(SchemaPlace {
+                tree,
+                may_be_reference,
+            })?;
+        }
+    }
+    Ok(())
+}
+
+/// Puts a tree on a stack, unless it is null or a boolean. Fails where memory runs out.
+pub(crate) fn push_alone<'a>(
+    stack: &mut Vec<SchemaPlace<'a>>,
+    tree: &'a Value,
+    may_be_reference: bool,
+) -> Result<(), AllocError>
+    ensures { OnOk result (places stack.new.items ≡ places stack.old.items ++ at_each may_be_reference (alone (view tree.now))) }
+{
+    if tree.is_null() || tree.is_boolean() {
+        return Ok(());
+    }
+    stack.push(SchemaPlace {
+        tree,
+        may_be_reference,
+    })?;
+    Ok(())
+}
+
+/// Puts the places in a member that is a list on a stack. Fails where memory runs out.
+pub(crate) fn push_list<'a>(
+    stack: &mut Vec<SchemaPlace<'a>>,
+    tree: &'a Value,
+    name: &'static str,
+    may_be_reference: bool,
+) -> Result<(), AllocError>
+    ensures { OnOk result (places stack.new.items ≡ places stack.old.items ++ in_list may_be_reference name.now (view tree.now)) }
+{
+    match tree.get(name) {
+        Some(member) => push_elements(stack, member, may_be_reference),
+        None => Ok(()),
+    }
+}
+
+/// Puts the places in a member that is a map on a stack. Fails where memory runs out.
+pub(crate) fn push_map<'a>(
+    stack: &mut Vec<SchemaPlace<'a>>,
+    tree: &'a Value,
+    name: &'static str,
+    may_be_reference: bool,
+) -> Result<(), AllocError>
+    ensures { OnOk result (places stack.new.items ≡ places stack.old.items ++ in_map may_be_reference name.now (view tree.now)) }
+{
+    match tree.get(name) {
+        Some(member) => push_entries(stack, member, may_be_reference),
+        None => Ok(()),
+    }
+}
+
+/// Puts a member that is one place on a stack. Fails where memory runs out.
+pub(crate) fn push_one<'a>(
+    stack: &mut Vec<SchemaPlace<'a>>,
+    tree: &'a Value,
+    name: &'static str,
+    may_be_reference: bool,
+) -> Result<(), AllocError>
+    ensures { OnOk result (places stack.new.items ≡ places stack.old.items ++ in_one may_be_reference name.now (view tree.now)) }
+{
+    match tree.get(name) {
+        Some(member) => push_alone(stack, member, may_be_reference),
+        None => Ok(()),
+    }
+}
+
+/// Puts the places in the combinations of a tree on a stack. Fails where memory runs out.
+fn push_combinations<'a>(
+    stack: &mut Vec<SchemaPlace<'a>>,
+    tree: &'a Value,
+) -> Result<(), AllocError>
+    ensures { OnOk result (places stack.new.items ≡ places stack.old.items ++ of_combinations (view tree.now)) }
+{
+    push_list(stack, tree, "oneOf", true)?;
+    push_list(stack, tree, "allOf", true)?;
+    push_list(stack, tree, "anyOf", true)?;
+    Ok(())
+}
+
+/// Puts the places in the items of an array on a stack. Fails where memory runs out.
+pub(crate) fn push_of_array<'a>(
+    stack: &mut Vec<SchemaPlace<'a>>,
+    tree: &'a Value,
+) -> Result<(), AllocError>
+    ensures { OnOk result (places stack.new.items ≡ places stack.old.items ++ of_array (view tree.now)) }
+{
+    push_one(stack, tree, "items", true)?;
+    push_list(stack, tree, "prefixItems", false)?;
+    Ok(())
+}
+
+/// Puts the places in the properties of an object on a stack. Fails where memory runs out.
+pub(crate) fn push_of_object<'a>(
+    stack: &mut Vec<SchemaPlace<'a>>,
+    tree: &'a Value,
+) -> Result<(), AllocError>
+    ensures { OnOk result (places stack.new.items ≡ places stack.old.items ++ of_object (view tree.now)) }
+{
+    push_map(stack, tree, "properties", true)?;
+    push_one(stack, tree, "additionalProperties", true)?;
+    push_one(stack, tree, "propertyNames", false)?;
+    Ok(())
+}
+
+/// Puts the inner places of a tree on a stack, whatever the tree turns out to be. Fails where memory runs out.
+fn push_inner<'a>(stack: &mut Vec<SchemaPlace<'a>>, tree: &'a Value) -> Result<(), AllocError>
+    ensures { OnOk result (places stack.new.items ≡ places stack.old.items ++ inner (view tree.now)) }
+{
+    push_combinations(stack, tree)?;
+    push_of_array(stack, tree)?;
+    push_of_object(stack, tree)?;
+    push_one(stack, tree, "contentSchema", true)?;
+    Ok(())
+}
+
+/// The table of the places of some roots and of all that stand inside, each after the one that it stands in. Fails where
+/// memory runs out.
+pub(crate) fn walk<'a>(
+    alloc: Global,
+    roots: Vec<SchemaPlace<'a>>,
+) -> Result<Vec<SchemaPlace<'a>>, AllocError>
+    ensures walked { IfOk result (λ table. Walked (places roots.entry.items) (places table.items) []) }
+    ensures few { IfOk result (λ table. length table.items ≤ total (places roots.entry.items)) }
+{
+    let mut table = Vec::new(alloc);
+    let mut stack = roots;
+    'walk: while let Some(place) = stack.pop() {
+        push_inner(&mut stack, place.tree)?;
+        table.push(place)?;
+    }
+    Ok(table)
+}
