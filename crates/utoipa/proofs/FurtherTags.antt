@@ -5,7 +5,7 @@ use Rattle.std.specs.BTreeMap.{insert_entry}
 use Rattle.std.specs.List.Sorted.{IsStrictlySortedBy}
 use Rattle.std.specs.Map.{keys_of}
 use Rattle.std.proofs.lemmas.List.{map-append}
-use Rattle.utoipa_base.specs.Docs.{Doc, text_doc, some_doc, list_doc, docs_of, Entries, entry, entries_of_list}
+use Rattle.utoipa_base.specs.Docs.{Doc, text_doc, some_doc, list_doc, docs_of, entry, entries_of_list}
 use Rattle.utoipa_base.specs.Fill.{Pairs}
 use Rattle.utoipa_base.specs.Kinds.{operation_object}
 use Rattle.utoipa_base.specs.Views.{text_of, option_of, list_of_docs, pairs_of}
@@ -19,7 +19,7 @@ use Rattle.utoipa_path.specs.Docs.{operation_layer, operation_doc, path_item_doc
 use Rattle.utoipa_path.specs.Folds.{operation_is}
 use Rattle.utoipa_path.specs.Lists.{items_if_any}
 use Rattle.utoipa_path.specs.Methods.{with_method}
-use Rattle.utoipa_path.specs.declared.types.Operation.{Operation, Operation-F, out-Operation}
+use Rattle.utoipa_path.specs.declared.types.Operation.{Operation, out-Operation}
 use Rattle.utoipa_path.specs.declared.types.PathItem.{PathItem}
 use Rattle.utoipa.specs.Tags.{text_in, texts_in, texts_doc, in_field, change_entries}
 

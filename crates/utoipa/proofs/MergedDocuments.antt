@@ -1,9 +1,7 @@
 -- Documents that are merged by their parts.
-use Rattle.std.proofs.Common.{◌≡◌, ◌⊎◌, inl, inr, List, [], ◌∷◌, ◌++◌, Bool, true, false, ◌||◌, Option, None, Some, map, All, Contains, refl, sym, ap, ◌∙◌, subst, Global}
+use Rattle.std.proofs.Common.{◌≡◌, inl, inr, List, [], ◌∷◌, Bool, true, false, ◌||◌, Option, None, Some, map, Contains, refl, sym, ap, ◌∙◌, subst, Global}
 use Rattle.std.specs.Prelude.{Vec}
 use Rattle.std.specs.List.{list_any}
-use Rattle.std.proofs.lemmas.List.{map-append}
-use Rattle.std.proofs.lemmas.List.Folds.{list_any-append}
 use Rattle.std.proofs.lemmas.List.Elements.{Contains-append_cases}
 use Rattle.utoipa_base.specs.Docs.{Doc, docs_of}
 use Rattle.utoipa_base.specs.Views.{list_of_docs, option_of}

@@ -1,5 +1,5 @@
 -- The parts of documents, taken one after the other and merged.
-use Rattle.std.proofs.Common.{◌≡◌, ◌<◌, List, [], ◌∷◌, ◌++◌, length, Option, false, map, All, refl, sym, ap, ◌∙◌, subst, arith, Global}
+use Rattle.std.proofs.Common.{◌≡◌, ◌<◌, List, [], ◌∷◌, ◌++◌, length, Option, false, map, All, sym, ap, ◌∙◌, subst, arith, Global}
 use Rattle.std.specs.Prelude.{Vec}
 use Rattle.std.specs.List.{AllByRecursion}
 use Rattle.std.proofs.lemmas.List.{map-append}
@@ -8,7 +8,7 @@ use Rattle.utoipa_base.specs.WellFormed.{has_fraction, IsPlain}
 use Rattle.utoipa_leaf.specs.Server.{server_doc}
 use Rattle.utoipa_leaf.specs.Tag.{tag_doc}
 use Rattle.utoipa_components.specs.Filled.{AreComponentsInOrder}
-use Rattle.utoipa_merging.specs.Merged.{IsListMerged, ArePathsInOrder, IsInKeyOrder}
+use Rattle.utoipa_merging.specs.Merged.{ArePathsInOrder, IsInKeyOrder}
 use Rattle.utoipa_components.specs.declared.components.Components.{Components}
 use Rattle.utoipa_paths.specs.Paths.{paths_doc}
 use Rattle.utoipa_paths.specs.declared.paths.Paths.{Paths}

@@ -1,5 +1,5 @@
 -- Merging and nesting documents: what is merged, and when it is refused.
-use Rattle.std.specs.Prelude.{◌≡◌, ◌∷◌, ◌||◌, ◌++◌, List, [], Bool, true, false, map, All}
+use Rattle.std.specs.Prelude.{◌≡◌, ◌∷◌, ◌||◌, ◌++◌, List, [], Bool, false, map, All}
 use Rattle.std.specs.List.{list_any}
 use Rattle.utoipa_base.specs.Docs.{Doc}
 use Rattle.utoipa_base.specs.Views.{list_of_docs, option_of}
@@ -7,7 +7,6 @@ use Rattle.utoipa_base.specs.WellFormed.{has_fraction, IsPlain}
 use Rattle.utoipa_leaf.specs.Server.{server_doc}
 use Rattle.utoipa_leaf.specs.Tag.{tag_doc}
 use Rattle.utoipa_merging.specs.Slots.{servers_joined, tags_joined, joined_of}
-use Rattle.utoipa.specs.OpenApi.{openapi_doc}
 use Rattle.utoipa.specs.declared.bracketing.Bracketing.{Bracketing}
 use Rattle.utoipa.specs.declared.bracketing.Parts.{Parts}
 use Rattle.utoipa.specs.declared.bracketing.Bracketing.TheVariants.{Leaf, Join'}

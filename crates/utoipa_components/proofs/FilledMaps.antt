@@ -1,5 +1,5 @@
 -- Components that take from later ones, by the documents of their maps.
-use Rattle.std.proofs.Common.{◌≡◌, ℕ, List, [], ◌∷◌, ◌++◌, Option, None, Some, Result, Ok, Err, OnErr, option_map, refl, sym, ap, ◌∙◌, subst}
+use Rattle.std.proofs.Common.{◌≡◌, ℕ, List, [], ◌∷◌, ◌++◌, None, Some, Result, Ok, Err, OnErr, option_map, refl, sym, ap, ◌∙◌, subst}
 use Rattle.std.specs.List.{AllByRecursion}
 use Rattle.std.specs.List.Sorted.{IsStrictlySortedBy}
 use Rattle.std.specs.Option.{option_or}
@@ -7,7 +7,7 @@ use Rattle.utoipa_base.specs.Docs.{Doc, none_doc, some_doc, table_doc, docs_of}
 use Rattle.utoipa_base.specs.Extensions.{extensions_view}
 use Rattle.utoipa_base.specs.Kinds.{named, schema, security_scheme, components_object, response_object, parameter_object, example_object, request_body_object, header_object, link_object, media_type_object}
 use Rattle.utoipa_base.specs.Tables.{callback}
-use Rattle.utoipa_base.specs.Views.{map_of_docs, option_of}
+use Rattle.utoipa_base.specs.Views.{map_of_docs}
 use Rattle.utoipa_leaf.specs.Example.{example_doc}
 use Rattle.utoipa_media.specs.Docs.{content_doc, header_doc}
 use Rattle.utoipa_media.specs.Link.{link_doc}

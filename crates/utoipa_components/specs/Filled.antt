@@ -1,6 +1,5 @@
 -- Components that take from later ones, and what takes that back.
 use Rattle.std.specs.Prelude.{◌≡◌, Option, None, Some}
-use Rattle.utoipa_base.specs.Docs.{Doc}
 use Rattle.utoipa_base.specs.Views.{option_of}
 use Rattle.utoipa_leaf.specs.declared.example.Example.{Example}
 use Rattle.utoipa_media.specs.declared.link.Link.{Link}

@@ -1,7 +1,7 @@
 -- The documents of the schemas that are made: of objects, arrays and combinations of which little is said.
-use Rattle.std.proofs.Common.{◌≡◌, ◌∷◌, ◌++◌, ◌∙◌, [], List, Bool, Option, None, Some, option_map, Box, Global, Vec, map, ap, sym, refl}
+use Rattle.std.proofs.Common.{◌≡◌, ◌∙◌, List, Bool, Option, option_map, Box, Global, map, ap}
 use Rattle.serde_json.specs.declared.value.Value.{Value}
-use Rattle.utoipa_base.specs.Docs.{Doc, flag_doc, text_doc, own_doc, whole_doc, list_doc, map_doc, table_doc, no_docs, doc, docs_of, entries_of_list}
+use Rattle.utoipa_base.specs.Docs.{flag_doc, text_doc, own_doc, whole_doc, list_doc, map_doc, table_doc, no_docs, doc, docs_of, entries_of_list}
 use Rattle.utoipa_base.specs.Docs as docs
 use Rattle.utoipa_base.specs.Extensions.{extensions_view}
 use Rattle.utoipa_base.specs.Flags.{deprecated_doc}

@@ -1,5 +1,5 @@
 -- Responses that are put under their codes, as documents.
-use Rattle.std.proofs.Common.{◌≡◌, List, [], ◌∷◌, refl, ap, ◌∙◌, String, Global, Ordering, Less, Equal, Greater, string_bytes, string_cmp}
+use Rattle.std.proofs.Common.{◌≡◌, [], ◌∷◌, refl, ap, ◌∙◌, String, Global, Ordering, Less, Equal, Greater, string_bytes, string_cmp}
 use Rattle.std.specs.BTreeMap.{insert_entry}
 use Rattle.std.specs.Cmp.Lexicographic.{slice_cmp}
 use Rattle.std.specs.Ordering.{match_ordering, nat_cmp}

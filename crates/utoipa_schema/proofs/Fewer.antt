@@ -1,5 +1,5 @@
 -- A schema has no more schema places than one and those of its members that hold schemas.
-use Rattle.std.proofs.Common.{◌≡◌, ◌∙◌, ◌≤◌, ◌+◌, ℕ, ap, None, Some, Option, Box, Vec, Global, String, BTreeMap, arith}
+use Rattle.std.proofs.Common.{◌≡◌, ◌∙◌, ◌≤◌, ◌+◌, ℕ, ap, None, Option, Box, Vec, Global, String, BTreeMap, arith}
 use Rattle.utoipa_base.specs.Kinds.{schema}
 use Rattle.utoipa_base.specs.Refs.{ref_or_doc}
 use Rattle.utoipa_base.specs.Values.{schema_count}

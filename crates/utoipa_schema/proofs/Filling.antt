@@ -1,12 +1,12 @@
 -- The table filled from its end: what the loop has come to, and how a row goes on.
-use Rattle.std.proofs.Common.{◌≡◌, ◌∙◌, ◌≤◌, ◌<◌, ◌+◌, ℕ, List, [], ◌∷◌, ◌++◌, length, map, take, reverse, Bool, true, false, Option, None, Some, option_map, refl, sym, ap, subst, arith, nat_lt, if◌then◌else◌, codes}
+use Rattle.std.proofs.Common.{◌≡◌, ◌∙◌, ◌≤◌, ◌<◌, ◌+◌, ℕ, List, [], ◌∷◌, ◌++◌, length, map, take, reverse, true, false, Option, None, option_map, refl, sym, ap, subst, arith, nat_lt, if◌then◌else◌, codes}
 use Rattle.std.proofs.lemmas.List.{map-append, length-append, take_at}
 use Rattle.serde_json.specs.Data.{Data, null, boolean, number, string, array, object}
 use Rattle.utoipa_base.specs.Docs.{Doc, own_doc, ref_doc}
 use Rattle.utoipa_base.specs.Kinds.{schema, ref_or, named, reference_object}
 use Rattle.utoipa_base.specs.Reading.{read, reader, or_else}
 use Rattle.utoipa_base.proofs.Places.{ticked_least, ticked_grows, ticked_most}
-use Rattle.utoipa_schema.specs.Outcomes.{documents, count_of, counts, AreCombinations, AreOfArray, AreOfObject, AreInner, counts_of_combinations, counts_of_array, counts_of_object, counts_of_inner}
+use Rattle.utoipa_schema.specs.Outcomes.{count_of, counts, AreCombinations, AreOfArray, AreOfObject, AreInner, counts_of_combinations, counts_of_array, counts_of_object, counts_of_inner}
 use Rattle.utoipa_schema.specs.Places.{Place, read_place, in_list, in_map, in_one, of_combinations, of_array, of_object, of_content, inner, Reached, Walked}
 use Rattle.utoipa_schema.specs.declared.outcomes.CombinationOutcomes.{CombinationOutcomes}
 use Rattle.utoipa_schema.specs.declared.outcomes.ArrayOutcomes.{ArrayOutcomes}

@@ -5,12 +5,12 @@ use Rattle.std.specs.BTreeMap.{insert_entry}
 use Rattle.std.specs.List.Sorted.{IsStrictlySortedBy}
 use Rattle.std.specs.Map.{keys_of}
 use Rattle.std.specs.Result.{IsErrAnd}
-use Rattle.serde_json.specs.Data.{Data, null, boolean, number, string, array, object, Items, no_items, item, Members, no_members, member}
+use Rattle.serde_json.specs.Data.{Data, null, boolean, number, string, array, object, Items, no_items, item, member}
 use Rattle.serde_json.specs.Find.{get, as_array, as_object}
 use Rattle.serde_json.specs.View.{view, members_view}
 use Rattle.serde_json.specs.declared.value.Value.{Value}
 use Rattle.serde_json.proofs.Views.{Entry}
-use Rattle.utoipa_base.specs.Docs.{Doc, own_doc, some_doc, Docs, list_doc, map_doc, docs_of, entries_of_list}
+use Rattle.utoipa_base.specs.Docs.{Doc, own_doc, some_doc, list_doc, docs_of, entries_of_list}
 use Rattle.utoipa_base.specs.Faults.{Refuses, fitting}
 use Rattle.utoipa_base.specs.Fields.{field}
 use Rattle.utoipa_base.specs.Kinds.{Kind, schema, ref_or, list_of, map_of, required, optional, defaulted}
@@ -23,17 +23,16 @@ use Rattle.utoipa_base.specs.Views.{option_of, list_of_docs, map_of_docs, pairs_
 use Rattle.utoipa_base.specs.declared.fault.ReadFault.{ReadFault}
 use Rattle.utoipa_base.specs.declared.fault.ReadFault.TheVariants.{Memory, Fraction, Missing, Kind as no_kind, Word, Alternative, Text}
 use Rattle.utoipa_base.specs.declared.refs.RefOr.{RefOr}
-use Rattle.utoipa_base.proofs.ByKind.{read-list, items_read, prepend, prepend-none, prepend-some, prepend-append}
+use Rattle.utoipa_base.proofs.ByKind.{items_read, prepend, prepend-none, prepend-some, prepend-append}
 use Rattle.utoipa_base.proofs.ByRows.{passes_on}
 use Rattle.utoipa_base.proofs.Maps.{texts, entries_read, prepend_entries, insert_last, entries_read-step, entries_read-stop, entries_read-end, map_by_entries}
 use Rattle.utoipa_base.proofs.Members.{member_at, field_required, field_defaulted, field_optional, field_null, field_absent}
 use Rattle.utoipa_base.proofs.Places.{schema_count-none, schema_count-some, schema_count-list, schema_count-map, docs_schema_count-none, entries_schema_count-none, own_places}
 use Rattle.utoipa_base.proofs.Values.{docs_schema_count-last, entries_schema_count-last}
 use Rattle.utoipa_schema.specs.Docs.{schema_doc}
-use Rattle.utoipa_schema.specs.Outcomes.{outcome_doc, documents, count_of, counts, last, own_doc_of, own_part, all_docs, all_of_list, Fits}
-use Rattle.utoipa_schema.specs.Places.{read_place, read_by, items_list, members_list, elements, at_each, alone, part}
+use Rattle.utoipa_schema.specs.Outcomes.{count_of, counts, last, own_doc_of, own_part, all_docs, all_of_list, Fits}
+use Rattle.utoipa_schema.specs.Places.{read_place, items_list, members_list, elements, at_each, alone, part}
 use Rattle.utoipa_schema.specs.declared.types.Schema.{Schema}
-use Rattle.utoipa_schema.proofs.Walks.{elements-array}
 
 -- ---- counts
 

@@ -5,7 +5,7 @@ use Rattle.serde_json.specs.Data.{Data}
 use Rattle.utoipa_base.specs.Docs.{Doc}
 use Rattle.utoipa_base.specs.declared.refs.RefOr.{RefOr}
 use Rattle.utoipa_schema.specs.Outcomes.{documents, outcome_doc}
-use Rattle.utoipa_schema.specs.Places.{Place, read_place, at_each, in_list, in_map, in_one, of_combinations, of_array, of_object, of_content, inner}
+use Rattle.utoipa_schema.specs.Places.{read_place, at_each, in_list, in_map, in_one, of_combinations, of_array, of_object, of_content, inner}
 use Rattle.utoipa_schema.specs.declared.types.Schema.{Schema}
 
 drop-map : {X Y : Type 0} (f : X → Y) (n : ℕ) (xs : List X) → drop n (map f xs) ≡ map f (drop n xs)

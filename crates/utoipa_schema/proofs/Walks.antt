@@ -1,6 +1,6 @@
 -- The walk that finds the places of a tree, and its way back.
-use Rattle.std.proofs.Common.{suc, ◌≡◌, ℕ, ◌+◌, ◌<◌, ◌≤◌, List, [], ◌∷◌, ◌++◌, length, map, Bool, Option, Some, None, option_map, is_some, true, false, refl, sym, ap, ◌∙◌, arith, append_assoc, codes}
-use Rattle.std.proofs.lemmas.List.{reverse-append, map-append}
+use Rattle.std.proofs.Common.{suc, ◌≡◌, ℕ, ◌+◌, ◌<◌, ◌≤◌, List, [], ◌∷◌, ◌++◌, length, map, Bool, Option, Some, None, is_some, true, false, refl, ap, ◌∙◌, arith, append_assoc, codes}
+use Rattle.std.proofs.lemmas.List.{reverse-append}
 use Rattle.serde_json.specs.Data.{Data, null, boolean, number, string, array, object, Items, no_items, item, Members, no_members, member}
 use Rattle.serde_json.specs.Find.{get, as_array, as_object, as_null, as_bool}
 use Rattle.serde_json.specs.View.{view, items_view, members_view}

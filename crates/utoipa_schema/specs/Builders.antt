@@ -1,5 +1,5 @@
 -- What the builders of schemas hold, and what the constructors make.
-use Rattle.std.specs.Prelude.{◌≡◌, false, List, [], ◌∷◌, Option, None, Some, String, string_bytes, Vec, Box}
+use Rattle.std.specs.Prelude.{◌≡◌, false, List, [], ◌∷◌, None, Some, String, string_bytes, Vec, Box}
 use Rattle.std.specs.BTreeMap.{BTreeMap}
 use Rattle.std.specs.declared.alloc.Global.{Global}
 use Rattle.serde_json.specs.declared.value.Value.{Value}

@@ -2,7 +2,7 @@
 --
 -- Schemas hold each other, so their documents are a fold: a layer for each type gives the document of a value by those of the
 -- schemas in it, and the fold applies the layers from the innermost schema outwards.
-use Rattle.std.specs.Prelude.{false, option_map, Vec, Box}
+use Rattle.std.specs.Prelude.{false, option_map, Vec}
 use Rattle.std.specs.declared.alloc.Global.{Global}
 use Rattle.utoipa_base.specs.Docs.{Doc, flag_doc, whole_doc, table_doc, no_docs, doc}
 use Rattle.utoipa_base.specs.Docs as docs

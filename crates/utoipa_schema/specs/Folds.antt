@@ -8,7 +8,7 @@ use Rattle.utoipa_base.specs.Refs.{ref_or_doc}
 use Rattle.utoipa_base.specs.declared.refs.RefOr.{RefOr}
 use Rattle.utoipa_schema.specs.Layers.{items_natural, one_of_natural, all_of_natural, any_of_natural, array_natural, object_natural}
 use Rattle.utoipa_schema.specs.Docs.{as_is, items_layer, schema_layer, one_of_layer, all_of_layer, any_of_layer, array_layer, object_layer, schema_doc, array_items_doc, one_of_doc, all_of_doc, any_of_doc, array_doc, object_doc}
-use Rattle.utoipa_schema.specs.declared.types.ArrayItems.{ArrayItems, ArrayItems-F, fold-ArrayItems, fold-roll-ArrayItems, roll-ArrayItems}
+use Rattle.utoipa_schema.specs.declared.types.ArrayItems.{ArrayItems, ArrayItems-F, fold-roll-ArrayItems, roll-ArrayItems}
 use Rattle.utoipa_schema.specs.declared.types.ArrayItems as items
 use Rattle.utoipa_schema.specs.declared.types.ArrayItems.TheVariants as items_variants
 use Rattle.utoipa_schema.specs.declared.types.Schema.{Schema, Schema-F, fold-roll-Schema, roll-Schema}

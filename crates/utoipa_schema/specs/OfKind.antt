@@ -1,10 +1,10 @@
 -- Each schema is a document of its kind.
-use Rattle.std.proofs.Common.{◌∙◌, refl, ap, sym, subst, option_map, Vec, Box, Global}
+use Rattle.std.proofs.Common.{◌∙◌, refl, ap, sym, subst, option_map, Vec, Global}
 use Rattle.utoipa_base.specs.Docs.{Doc, flag_doc, whole_doc}
 use Rattle.utoipa_base.specs.Docs as docs
 use Rattle.utoipa_base.specs.Extensions.{extensions_view}
 use Rattle.utoipa_base.specs.Flags.{deprecated_doc}
-use Rattle.utoipa_base.specs.Kinds.{Kind, text, flag, whole, numeral, any, list_of, named, ref_or, schema, schema_format, array_items, additional_properties, discriminator_object, xml_object, one_of_schema, all_of_schema, any_of_schema, array_schema, object_schema}
+use Rattle.utoipa_base.specs.Kinds.{text, flag, whole, numeral, any, list_of, named, ref_or, schema, schema_format, array_items, additional_properties, discriminator_object, xml_object, one_of_schema, all_of_schema, any_of_schema, array_schema, object_schema}
 use Rattle.utoipa_base.specs.Numbers.{number_doc}
 use Rattle.utoipa_base.specs.OfKind.{text_of_kind, flag_of_kind, whole_of_kind, deprecated_of_kind, number_of_kind, tree_of_kind, option_of_kind, list_of_kind, map_of_kind, reference_of_kind, ref_or_of_kind, boxed_of_kind, extends_of_kind, no_rows, next_row, table_of_kind}
 use Rattle.utoipa_base.specs.Refs.{ref_or_doc}

@@ -1,4 +1,4 @@
-use Rattle.std.proofs.Common.{◌≡◌, ◌++◌, ap, sym, ◌∙◌, arith}
+use Rattle.std.proofs.Common.{◌++◌, ap, sym, ◌∙◌, arith}
 use Rattle.utoipa_merging.specs.Merged.{IsInKeyOrder}
 use Rattle.utoipa.specs.Merging.{leaves_of}
 use Rattle.utoipa.specs.OpenApi.{openapi_doc}

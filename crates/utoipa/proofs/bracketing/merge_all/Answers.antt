@@ -1,4 +1,4 @@
-use Rattle.std.proofs.Common.{◌≡◌, ◌∷◌, [], ◌≤◌, ◌∙◌, false, true≢false, length, map, ap, sym, arith}
+use Rattle.std.proofs.Common.{◌≡◌, ◌∷◌, [], ◌∙◌, false, true≢false, map, ap, sym, arith}
 use Rattle.utoipa_merging.proofs.ItemWalks.{none_left}
 use Rattle.utoipa.specs.Merging.{any_list_has_fraction}
 use Rattle.utoipa.specs.OpenApi.{openapi_doc}

@@ -1,8 +1,6 @@
-use Rattle.std.proofs.Common.{◌≡◌, ◌∷◌, List, ℕ, cond, Some, refl, ap, sym, ◌∙◌, subst, string_bytes, string_cmp}
+use Rattle.std.proofs.Common.{refl, ap, sym, ◌∙◌, subst, string_bytes, string_cmp}
 use Rattle.std.specs.List.Sorted.{IsStrictlySortedBy}
 use Rattle.std.specs.Map.{keys_of}
-use Rattle.std.specs.Str.{bytes_eq}
-use Rattle.std.specs.BTreeMap.{get_by_text}
 use Rattle.std.proofs.lemmas.Map.Text.{btree_map_updates_text}
 use Rattle.utoipa_base.specs.Views.{pairs_of}
 use Rattle.utoipa_path.specs.Docs.{path_item_doc}

@@ -1,6 +1,3 @@
-use Rattle.std.proofs.Common.{string_cmp}
-use Rattle.std.specs.List.Sorted.{IsStrictlySortedBy}
-use Rattle.std.specs.Map.{keys_of}
 use Rattle.utoipa_base.specs.Views.{map_of_docs, pairs_of}
 use Rattle.utoipa_merging.specs.Slots.{entries_in}
 use Rattle.utoipa_path.specs.Docs.{path_item_doc}

@@ -1,4 +1,4 @@
-use Rattle.std.proofs.Common.{◌∙◌, List, ℕ, ap}
+use Rattle.std.proofs.Common.{◌∙◌, ap}
 use Rattle.std.proofs.lemmas.Result.{on_ok_weaker}
 use Rattle.utoipa_path.specs.Docs.{operation_doc}
 use Rattle.utoipa_path.proofs.Built.{built_where_done}

@@ -1,7 +1,7 @@
 use Rattle.std.proofs.Common.{◌∙◌, ap}
 use Rattle.utoipa_base.specs.Docs.{Doc}
 use Rattle.utoipa_leaf.specs.declared.path.HttpMethod.{HttpMethod}
-use Rattle.utoipa_leaf.specs.declared.path.HttpMethod.TheVariants.{Options, Head, Patch, Trace}
+use Rattle.utoipa_leaf.specs.declared.path.HttpMethod.TheVariants.{Head, Patch, Trace}
 use Rattle.utoipa_path.specs.Builders.{PathItemFields}
 use Rattle.utoipa_path.specs.Methods.{operation_at, with_method}
 use Rattle.utoipa.specs.Tags.{texts_of, nested_method}

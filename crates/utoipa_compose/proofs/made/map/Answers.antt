@@ -1,10 +1,9 @@
-use Rattle.std.proofs.Common.{◌≡◌, ◌∙◌, Some, ap, sym}
-use Rattle.utoipa_base.specs.Docs.{Doc}
+use Rattle.std.proofs.Common.{◌∙◌, Some, ap, sym}
 use Rattle.utoipa_schema.specs.Builders.{one_object}
 use Rattle.utoipa_schema.specs.Docs.{schema_doc}
 use Rattle.utoipa_schema.specs.Docs.{additional_properties_doc}
 use Rattle.utoipa_compose.specs.Compositions.{map_by, own_schema, place_doc}
-use Rattle.utoipa_compose.specs.Made.{mapped, object_of}
+use Rattle.utoipa_compose.specs.Made.{mapped}
 use Rattle.utoipa_compose.proofs.MadeDocuments.{map_made}
 use Rattle.utoipa_compose.proofs.made.map.Goals as goal
 

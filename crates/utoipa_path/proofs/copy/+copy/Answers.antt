@@ -1,7 +1,7 @@
 -- The answers of the functions that copy operations, path items and callbacks.
 use Rattle.std.proofs.Common.{◌≡◌, ◌∙◌, ◌∷◌, ◌++◌, Option, option_map, String, Global, refl, sym, ap, arith, rules}
 use Rattle.std.proofs.lemmas.Result.{IfOk-weaker, on_ok_weaker}
-use Rattle.utoipa_base.specs.Docs.{some_doc, own_doc, ref_doc}
+use Rattle.utoipa_base.specs.Docs.{own_doc, ref_doc}
 use Rattle.utoipa_base.specs.Kinds.{named, path_item_object}
 use Rattle.utoipa_base.specs.Refs.{ref_or_doc}
 use Rattle.utoipa_base.specs.Tables.{callback}
@@ -12,7 +12,7 @@ use Rattle.utoipa_base.proofs.TableParts.{same_field}
 use Rattle.utoipa_base.proofs.Weights.{weight, lighter_member, lighter_some, lighter_own}
 use Rattle.utoipa_base.proofs.WritingMaps.{copied_begun, copied_step, copied_map}
 use Rattle.utoipa_path.specs.Docs.{CallbackOf, operation_doc, path_item_doc, callback_doc, operations_of}
-use Rattle.utoipa_leaf.specs.declared.path.HttpMethod.TheVariants.{Get, Post, Put, Delete, Options, Head, Patch, Trace}
+use Rattle.utoipa_leaf.specs.declared.path.HttpMethod.TheVariants.{Post, Put, Delete, Head, Patch, Trace}
 use Rattle.utoipa_path.specs.Builders.{PathItemFields, Operations}
 use Rattle.utoipa_path.specs.Methods.{with_method}
 use Rattle.utoipa_path.specs.declared.types.Operation.{Operation}

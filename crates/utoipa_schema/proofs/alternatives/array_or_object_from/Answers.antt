@@ -1,4 +1,4 @@
-use Rattle.std.proofs.Common.{◌≡◌, Some, None, Ok, ap, ◌∙◌, sym, arith}
+use Rattle.std.proofs.Common.{Some, Ok, ap, ◌∙◌, sym, arith}
 use Rattle.serde_json.specs.View.{view}
 use Rattle.utoipa_base.specs.Docs as docs
 use Rattle.utoipa_base.specs.Kinds.{named, array_schema, object_schema}

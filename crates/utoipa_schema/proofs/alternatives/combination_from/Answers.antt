@@ -1,4 +1,4 @@
-use Rattle.std.proofs.Common.{◌≡◌, Some, None, Ok, ap, ◌∙◌, sym, arith}
+use Rattle.std.proofs.Common.{Some, Ok, ap, ◌∙◌, sym, arith}
 use Rattle.serde_json.specs.View.{view}
 use Rattle.utoipa_base.specs.Kinds.{named, one_of_schema, all_of_schema, any_of_schema}
 use Rattle.utoipa_base.specs.Reading.{read}

@@ -1,4 +1,4 @@
-use Rattle.std.proofs.Common.{◌≡◌, Some, None, Ok, MatchOption, option_map, subst, ap, ◌∙◌, arith}
+use Rattle.std.proofs.Common.{◌≡◌, Some, Ok, MatchOption, option_map, subst, ap, ◌∙◌, arith}
 use Rattle.serde_json.specs.View.{view}
 use Rattle.utoipa_base.specs.Fields.{field}
 use Rattle.utoipa_base.specs.Kinds.{schema}

@@ -1,4 +1,4 @@
-use Rattle.std.proofs.Common.{◌≡◌, option_map, ap, ◌∙◌, sym, arith}
+use Rattle.std.proofs.Common.{option_map, ap, ◌∙◌, sym, arith}
 use Rattle.utoipa_base.specs.Docs.{own_doc}
 use Rattle.utoipa_base.proofs.Places.{own_places}
 use Rattle.utoipa_schema.specs.Docs.{schema_doc}

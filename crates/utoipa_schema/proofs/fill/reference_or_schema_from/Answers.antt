@@ -1,4 +1,4 @@
-use Rattle.std.proofs.Common.{◌≡◌, Some, None, Ok, ap, ◌∙◌, sym, refl, arith}
+use Rattle.std.proofs.Common.{Ok, ap, ◌∙◌, sym, refl, arith}
 use Rattle.serde_json.specs.View.{view}
 use Rattle.utoipa_base.specs.Kinds.{named, reference_object, schema, ref_or}
 use Rattle.utoipa_base.specs.Reading.{read}

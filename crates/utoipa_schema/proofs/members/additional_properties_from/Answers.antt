@@ -1,4 +1,4 @@
-use Rattle.std.proofs.Common.{◌≡◌, Some, None, option_map, true, false, ap, ◌∙◌, rules, arith, codes}
+use Rattle.std.proofs.Common.{◌≡◌, None, option_map, true, false, ap, rules, codes}
 use Rattle.serde_json.specs.Find.{get}
 use Rattle.serde_json.specs.View.{view}
 use Rattle.utoipa_base.specs.Kinds.{additional_properties as additional_kind}

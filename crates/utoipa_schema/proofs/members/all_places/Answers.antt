@@ -1,5 +1,4 @@
-use Rattle.std.proofs.Common.{◌≡◌, ◌∷◌, [], Some, None, ap, ◌∙◌, sym, subst, rules, length, arith}
-use Rattle.utoipa_base.specs.Docs.{Doc}
+use Rattle.std.proofs.Common.{◌≡◌, ◌∷◌, [], Some, None, ap, ◌∙◌, sym, rules, length, arith}
 use Rattle.utoipa_base.specs.Kinds.{schema}
 use Rattle.utoipa_base.specs.Refs.{ref_or_doc}
 use Rattle.utoipa_schema.specs.Docs.{schema_doc}

@@ -1,4 +1,4 @@
-use Rattle.std.proofs.Common.{◌≡◌, ◌∷◌, [], ◌++◌, Some, None, ap, ◌∙◌, rules, arith}
+use Rattle.std.proofs.Common.{◌≡◌, [], ap, ◌∙◌, rules, arith}
 use Rattle.std.proofs.lemmas.List.{map-append}
 use Rattle.utoipa_schema.specs.Outcomes.{documents, outcome_doc, last, count_of}
 use Rattle.utoipa_schema.proofs.Fitting.{fits_refused, only_one}

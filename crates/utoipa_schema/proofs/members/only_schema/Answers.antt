@@ -1,4 +1,4 @@
-use Rattle.std.proofs.Common.{◌≡◌, ◌∷◌, [], ◌++◌, Some, None, option_map, ap, ◌∙◌, sym, rules, arith}
+use Rattle.std.proofs.Common.{◌≡◌, [], Some, option_map, ap, ◌∙◌, sym, rules, arith}
 use Rattle.std.proofs.lemmas.List.{map-append}
 use Rattle.utoipa_schema.specs.Docs.{schema_doc}
 use Rattle.utoipa_schema.specs.Outcomes.{documents, outcome_doc, own_part, last, count_of}

@@ -1,4 +1,4 @@
-use Rattle.std.proofs.Common.{◌≡◌, ◌∷◌, [], Some, None, true, map, refl, ap, ◌∙◌, sym, subst, rules, length, arith, string_cmp}
+use Rattle.std.proofs.Common.{◌≡◌, ◌∷◌, Some, None, true, map, refl, ap, ◌∙◌, sym, subst, rules, length, arith, string_cmp}
 use Rattle.std.specs.List.Sorted.{IsStrictlySortedBy}
 use Rattle.std.specs.Map.{keys_of}
 use Rattle.serde_json.specs.Find.{as_object}

@@ -1,4 +1,4 @@
-use Rattle.std.proofs.Common.{◌≡◌, Some, None, [], map, option_map, true, false, ap, ◌∙◌, sym, rules, arith, codes}
+use Rattle.std.proofs.Common.{◌≡◌, Some, None, [], map, option_map, false, ap, ◌∙◌, sym, rules, arith, codes}
 use Rattle.serde_json.specs.Find.{get}
 use Rattle.serde_json.specs.View.{view}
 use Rattle.utoipa_base.specs.Kinds.{list_of, schema, defaulted}
@@ -10,7 +10,7 @@ use Rattle.utoipa_base.specs.Views.{list_of_docs}
 use Rattle.utoipa_base.proofs.Places.{schema_count-list, docs_schema_count-none}
 use Rattle.utoipa_schema.specs.Docs.{schema_doc}
 use Rattle.utoipa_schema.specs.Places.{elements}
-use Rattle.utoipa_schema.proofs.Fitting.{fits_refused, defaulted_fits, inside}
+use Rattle.utoipa_schema.proofs.Fitting.{defaulted_fits, inside}
 use Rattle.utoipa_schema.proofs.members.prefix_items_from.Goals as goal
 
 pub schemas_in_list-requires : goal.schemas_in_list-requires

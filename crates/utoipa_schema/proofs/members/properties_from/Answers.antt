@@ -1,4 +1,4 @@
-use Rattle.std.proofs.Common.{◌≡◌, Some, None, [], map, option_map, true, false, ap, ◌∙◌, sym, rules, arith, codes}
+use Rattle.std.proofs.Common.{◌≡◌, Some, None, [], option_map, true, ap, ◌∙◌, sym, rules, arith, codes}
 use Rattle.serde_json.specs.Find.{get}
 use Rattle.serde_json.specs.View.{view}
 use Rattle.utoipa_base.specs.Kinds.{map_of, ref_or, schema, defaulted}
@@ -11,7 +11,7 @@ use Rattle.utoipa_base.specs.Views.{map_of_docs, pairs_of}
 use Rattle.utoipa_base.proofs.Places.{schema_count-map, entries_schema_count-none}
 use Rattle.utoipa_schema.specs.Docs.{schema_doc}
 use Rattle.utoipa_schema.specs.Places.{entries}
-use Rattle.utoipa_schema.proofs.Fitting.{fits_refused, defaulted_fits, inside}
+use Rattle.utoipa_schema.proofs.Fitting.{defaulted_fits, inside}
 use Rattle.utoipa_schema.proofs.members.properties_from.Goals as goal
 
 pub places_by_name-requires : goal.places_by_name-requires

@@ -1,9 +1,9 @@
-use Rattle.std.proofs.Common.{◌≡◌, ap, ◌∙◌, sym, length, Some, None, option_map, rules}
+use Rattle.std.proofs.Common.{◌≡◌, ap, ◌∙◌, sym, length, Some, option_map, rules}
 use Rattle.serde_json.specs.View.{view, items_view}
 use Rattle.serde_json.specs.Find.{get, as_array}
 use Rattle.utoipa_base.proofs.Members.{member_at}
 use Rattle.utoipa_schema.specs.Places.{elements, part}
-use Rattle.utoipa_schema.proofs.Walks.{items_length, elements-array, elements-none}
+use Rattle.utoipa_schema.proofs.Walks.{items_length, elements-array}
 use Rattle.utoipa_schema.proofs.outcomes.count_list.Goals as goal
 
 pub returns-in-Some-as_array : goal.returns-in-Some-as_array

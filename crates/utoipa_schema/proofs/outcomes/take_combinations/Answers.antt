@@ -1,4 +1,4 @@
-use Rattle.std.proofs.Common.{◌≡◌, ap, ◌∙◌, map, codes, ◌++◌, true, false}
+use Rattle.std.proofs.Common.{◌≡◌, ap, ◌∙◌, map, codes, ◌++◌, true}
 use Rattle.serde_json.specs.Find.{get}
 use Rattle.serde_json.specs.View.{view}
 use Rattle.utoipa_schema.specs.Outcomes.{documents}

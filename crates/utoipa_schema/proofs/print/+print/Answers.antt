@@ -1,7 +1,7 @@
 -- The answers of the functions that print schemas.
 use Rattle.std.proofs.Common.{◌≡◌, false, [], ◌∷◌, ◌++◌, map, subst, refl, String, Global, sym, ap, ◌∙◌, arith, codes}
 use Rattle.utoipa_base.specs.Docs.{list_doc, docs_of, doc, no_docs}
-use Rattle.utoipa_base.specs.InOrder.{row_members, PrintsAmong, fields_by}
+use Rattle.utoipa_base.specs.InOrder.{row_members, PrintsAmong}
 use Rattle.utoipa_base.specs.Kinds.{schema, array_items, additional_properties as additional_kind, list_of, map_of, ref_or, optional}
 use Rattle.utoipa_base.specs.Pending.{pending_view}
 use Rattle.utoipa_base.specs.Printed.{Prints}

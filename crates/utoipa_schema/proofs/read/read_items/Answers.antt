@@ -1,4 +1,4 @@
-use Rattle.std.proofs.Common.{◌≡◌, [], ◌++◌, true, map, ap, ◌∙◌, rules, arith, codes}
+use Rattle.std.proofs.Common.{◌≡◌, [], ◌++◌, true, map, ap, ◌∙◌, rules, arith}
 use Rattle.serde_json.specs.View.{view}
 use Rattle.utoipa_schema.specs.Places.{places, total, at_each, alone}
 use Rattle.utoipa_schema.specs.Places.{read_place}

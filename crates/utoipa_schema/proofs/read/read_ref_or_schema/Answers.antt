@@ -1,11 +1,11 @@
-use Rattle.std.proofs.Common.{◌≡◌, ◌∷◌, [], ◌++◌, true, false, map, ap, ◌∙◌, rules, arith}
+use Rattle.std.proofs.Common.{◌≡◌, ◌∷◌, [], ◌++◌, true, map, ap, ◌∙◌, rules, arith}
 use Rattle.std.proofs.lemmas.List.{map-append}
 use Rattle.serde_json.specs.View.{view}
 use Rattle.utoipa_base.specs.Kinds.{schema}
 use Rattle.utoipa_base.specs.Reading.{read}
 use Rattle.utoipa_base.specs.Refs.{ref_or_doc}
 use Rattle.utoipa_schema.specs.Docs.{schema_doc}
-use Rattle.utoipa_schema.specs.Outcomes.{documents, last, own_part}
+use Rattle.utoipa_schema.specs.Outcomes.{documents, last}
 use Rattle.utoipa_schema.specs.Places.{Place, places, read_place, total}
 use Rattle.utoipa_schema.proofs.Fitting.{reads_from, fits_as_well}
 use Rattle.utoipa_schema.proofs.Walks.{total-one}

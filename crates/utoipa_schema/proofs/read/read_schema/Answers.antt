@@ -1,4 +1,4 @@
-use Rattle.std.proofs.Common.{◌≡◌, ◌∷◌, [], ◌++◌, true, false, map, ap, ◌∙◌, rules, arith}
+use Rattle.std.proofs.Common.{◌≡◌, ◌∷◌, [], ◌++◌, false, map, ap, ◌∙◌, rules, arith}
 use Rattle.std.proofs.lemmas.List.{map-append}
 use Rattle.serde_json.specs.View.{view}
 use Rattle.utoipa_base.specs.Kinds.{schema}

@@ -1,8 +1,8 @@
-use Rattle.std.proofs.Common.{◌≡◌, [], ◌++◌, Some, map, ap, ◌∙◌, sym, rules, arith}
+use Rattle.std.proofs.Common.{[], Some, map, ap, ◌∙◌, sym, rules, arith}
 use Rattle.serde_json.specs.View.{view}
 use Rattle.utoipa_base.specs.Values.{schema_count}
 use Rattle.utoipa_schema.specs.Docs.{object_doc}
-use Rattle.utoipa_schema.specs.Outcomes.{documents, counts}
+use Rattle.utoipa_schema.specs.Outcomes.{counts}
 use Rattle.utoipa_schema.specs.Places.{read_place, of_object, of_content}
 use Rattle.utoipa_schema.proofs.Filling.{object_counted}
 use Rattle.utoipa_schema.proofs.Fitting.{passes_fits, passes_refused, counts-append}

@@ -1,7 +1,7 @@
 use Rattle.utoipa_merging.specs.Slots.{entries_in, paths_of}
 use Rattle.utoipa.specs.OpenApi.{openapi_doc}
 use Rattle.utoipa_paths.proofs.PathsViews.{items_in_order}
-use Rattle.utoipa.proofs.Mounted.{each_answered, nested_by_parts, mounted_in_order, rest_in_order, with_items}
+use Rattle.utoipa.proofs.Mounted.{each_answered, nested_by_parts, mounted_in_order, rest_in_order}
 use Rattle.utoipa.proofs.document.OpenApi.nest_with_path_composer.Goals as goal
 
 pub returns-clause-ok : goal.returns-clause-ok

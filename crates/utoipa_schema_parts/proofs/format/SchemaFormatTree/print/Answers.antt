@@ -1,4 +1,3 @@
-use Rattle.std.proofs.Common.{ap}
 use Rattle.json.specs.Written.{Writes}
 use Rattle.json.specs.Token as token
 use Rattle.std.proofs.Common.{subst}
