@@ -132,6 +132,14 @@ def that_go_together(bodies, cycles):
     return chosen
 
 
+def linked(old, new):
+    """Makes a file the same as another, or a copy where they can't be one, as on two disks."""
+    try:
+        os.link(old, new)
+    except OSError:
+        shutil.copy2(old, new)
+
+
 def copy_with_libraries(crate, room):
     """Copies a crate and those of the repository that it stands on, and returns the crate's folder."""
     uses = [it.split("#")[0].partition(":") for it in lines_of(os.path.join(ROOT, "crates.txt"))]
@@ -143,10 +151,10 @@ def copy_with_libraries(crate, room):
     with open(os.path.join(room, "crates.txt"), "w") as listed:
         for name in needed:
             listed.write("%s: %s\n" % (name, " ".join(uses[name])))
-            # a library that is built is not checked again, so it needs none of what its check kept
+            # a library that is built is not checked again, so it needs none of what its check kept, and nothing writes to it
             is_built = name != crate and os.path.exists(os.path.join(CRATES, name, "out/rlib/stamp"))
-            left_out = shutil.ignore_patterns("incremental") if is_built else None
-            shutil.copytree(os.path.join(CRATES, name), os.path.join(room, "crates", name), ignore=left_out)
+            how = {"ignore": shutil.ignore_patterns("incremental"), "copy_function": linked} if is_built else {}
+            shutil.copytree(os.path.join(CRATES, name), os.path.join(room, "crates", name), **how)
     return os.path.join(room, "crates", crate)
 
 

@@ -1,16 +1,17 @@
-//! The library's tour: builds the document of a small service, prints it, reads it back, and prints its title.
+//! The library's tour: assembles the document of a small service, prints it, reads it back, and prints its title.
 #![tactic(auto)]
 
 mod document;
 
+use document::Pets;
 use std::io;
-use utoipa::openapi::OpenApi;
+use utoipa::{OpenApi, openapi};
 
 fn main(rt: HostRuntime) -> io::Result<()> {
-    let built = document::pets(rt.alloc())?;
+    let built = Pets::openapi(rt.alloc())?;
     let text = built.to_pretty_json(rt.alloc())?;
     println!(rt; "{text}")?;
-    match OpenApi::from_json(rt.alloc(), text.as_str()) {
+    match openapi::OpenApi::from_json(rt.alloc(), text.as_str()) {
         Ok(read) => {
             let title = &read.info.title;
             println!(rt; "The title is {title}.")

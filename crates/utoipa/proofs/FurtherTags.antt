@@ -13,6 +13,7 @@ use Rattle.utoipa_base.proofs.Maps.{texts, insert_last}
 use Rattle.utoipa_base.proofs.TableParts.{same_field, same_table}
 use Rattle.utoipa_leaf.specs.declared.path.HttpMethod.{HttpMethod}
 use Rattle.utoipa_leaf.specs.declared.path.HttpMethod.TheVariants.{Get, Post, Put, Delete, Options, Head, Patch, Trace}
+use Rattle.utoipa_merging.specs.Slots.{in_field}
 use Rattle.utoipa_merging.proofs.MapViews.{items_in-list}
 use Rattle.utoipa_path.specs.Builders.{PathItemFields}
 use Rattle.utoipa_path.specs.Docs.{operation_layer, operation_doc, path_item_doc}
@@ -21,7 +22,7 @@ use Rattle.utoipa_path.specs.Lists.{items_if_any}
 use Rattle.utoipa_path.specs.Methods.{with_method}
 use Rattle.utoipa_path.specs.declared.types.Operation.{Operation, out-Operation}
 use Rattle.utoipa_path.specs.declared.types.PathItem.{PathItem}
-use Rattle.utoipa.specs.Tags.{text_in, texts_in, texts_doc, in_field, change_entries}
+use Rattle.utoipa.specs.Tags.{text_in, texts_in, texts_doc, change_entries}
 
 -- ---- lists of texts
 

@@ -1,12 +1,9 @@
 -- Tags that operations bear beside their own.
-use Rattle.std.specs.Prelude.{ℕ, List, Option, [], ◌∷◌, ◌++◌, if◌then◌else◌, map, codes}
+use Rattle.std.specs.Prelude.{ℕ, List, Option, [], ◌∷◌, ◌++◌, map, codes}
 use Rattle.std.specs.Borrow.{Bor}
-use Rattle.std.specs.Str.{bytes_eq}
-use Rattle.utoipa_base.specs.Docs.{Doc, text_doc, some_doc, list_doc, map_doc, entries_doc, table_doc, Docs, no_docs, doc, docs_of, Entries, no_entries, entry, entries_of_list}
-use Rattle.utoipa_base.specs.Kinds.{Row}
-use Rattle.utoipa_base.specs.Tables.{table}
+use Rattle.utoipa_base.specs.Docs.{Doc, text_doc, some_doc, list_doc, map_doc, entries_doc, docs_of, Entries, no_entries, entry, entries_of_list}
 use Rattle.utoipa_base.specs.Views.{option_of, pairs_of}
-use Rattle.utoipa_merging.specs.Slots.{items_in}
+use Rattle.utoipa_merging.specs.Slots.{items_in, in_field}
 use Rattle.utoipa_path.specs.Docs.{operation_doc, path_item_doc}
 use Rattle.utoipa_path.specs.declared.types.Operation.{Operation}
 use Rattle.utoipa_paths.specs.Items.{ItemsByPath}
@@ -16,17 +13,6 @@ abbrev pub texts_of : List (Bor (List ℕ)) → List (List ℕ)
 texts_of = map (λ t. t.now)
 
 -- ---- a change of one part of a document
-
--- the first row of this name changed
-abbrev pub change_row : List ℕ → (Doc → Doc) → List Row → Docs → Docs
-change_row name change [] ds = ds
-change_row name change (r ∷ rs) no_docs = no_docs
-change_row name change (r ∷ rs) (doc d ds) = if bytes_eq name r.name then doc (change d) ds else doc d (change_row name change rs ds)
-
--- an object, with the field of this member changed
-abbrev pub in_field : List ℕ → (Doc → Doc) → Doc → Doc
-in_field name change (table_doc n ds e) = table_doc n (change_row name change (table n) ds) e
-in_field name change d = d
 
 -- an object, with the field of each of these members changed
 abbrev pub in_fields : List (List ℕ) → (Doc → Doc) → Doc → Doc

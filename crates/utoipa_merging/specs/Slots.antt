@@ -37,6 +37,17 @@ field_at name (some_doc d) = field_at name d
 field_at name (table_doc n ds e) = row_field name (table n) ds
 field_at name d = none_doc
 
+-- the first row of this name changed
+abbrev pub change_row : List ℕ → (Doc → Doc) → List Row → Docs → Docs
+change_row name change [] ds = ds
+change_row name change (r ∷ rs) no_docs = no_docs
+change_row name change (r ∷ rs) (doc d ds) = if bytes_eq name r.name then doc (change d) ds else doc d (change_row name change rs ds)
+
+-- an object, with the field of this member changed
+abbrev pub in_field : List ℕ → (Doc → Doc) → Doc → Doc
+in_field name change (table_doc n ds e) = table_doc n (change_row name change (table n) ds) e
+in_field name change d = d
+
 -- the extensions of an object
 abbrev pub extensions_in : Doc → Option Members
 extensions_in (some_doc d) = extensions_in d

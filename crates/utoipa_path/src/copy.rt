@@ -172,25 +172,6 @@ fn copy_method(
     Ok(())
 }
 
-/// The same of QUERY and of the additional operations.
-#[cycle(copy)]
-fn copy_further_methods(
-    copy: &mut PathItem,
-    alloc: Global,
-    item: &PathItem,
-) -> Result<(), AllocError>
-    ensures { OnOk result ((query : Option Operation) × (additional : Operations)
-        × (option_of operation_doc query ≡ option_of operation_doc (out-PathItem item.now).query)
-        × (map_of_docs operation_doc additional ≡ map_of_docs operation_doc (out-PathItem item.now).additional_operations)
-        × (out-PathItem copy.new ≡ record (out-PathItem copy.old) { query = query; additional_operations = additional })) }
-{
-    let query = clone_method(alloc, item.query.as_ref())?;
-    drop(mem::replace(&mut copy.query, query));
-    let additional = clone_operation_map(alloc, &item.additional_operations)?;
-    drop(mem::replace(&mut copy.additional_operations, additional));
-    Ok(())
-}
-
 /// Makes the operations of GET, PUT, POST and DELETE copies of those of another path item. Fails where memory runs out, and then some
 /// may be.
 #[cycle(copy)]
@@ -223,6 +204,25 @@ fn copy_other_methods(copy: &mut PathItem, alloc: Global, item: &PathItem) -> Re
     copy_method(copy, alloc, item, HttpMethod::Head)?;
     copy_method(copy, alloc, item, HttpMethod::Patch)?;
     copy_method(copy, alloc, item, HttpMethod::Trace)?;
+    Ok(())
+}
+
+/// The same of QUERY and of the additional operations.
+#[cycle(copy)]
+fn copy_further_methods(
+    copy: &mut PathItem,
+    alloc: Global,
+    item: &PathItem,
+) -> Result<(), AllocError>
+    ensures { OnOk result ((query : Option Operation) × (additional : Operations)
+        × (option_of operation_doc query ≡ option_of operation_doc (out-PathItem item.now).query)
+        × (map_of_docs operation_doc additional ≡ map_of_docs operation_doc (out-PathItem item.now).additional_operations)
+        × (out-PathItem copy.new ≡ record (out-PathItem copy.old) { query = query; additional_operations = additional })) }
+{
+    let query = clone_method(alloc, item.query.as_ref())?;
+    drop(mem::replace(&mut copy.query, query));
+    let additional = clone_operation_map(alloc, &item.additional_operations)?;
+    drop(mem::replace(&mut copy.additional_operations, additional));
     Ok(())
 }
 
