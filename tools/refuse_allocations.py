@@ -58,6 +58,13 @@ NESTED = DOCUMENT % (
     '[{"url":"A"},{"url":"B"},{"url":"B"}]',
 )
 
+# A schema with every member that holds schemas, and with every alternative, as it is printed.
+SCHEMA = (
+    '{"additionalProperties":{"type":"string"},"contentSchema":{"type":"integer"},"properties":{"a":{"items":{"oneOf":[{"$ref":"#/r"},'
+    '{"type":"null"}]},"prefixItems":[{"type":"boolean"}],"type":"array"},"b":{"allOf":[{"type":"number"}]},"c":{"anyOf":[{"$ref":"#/s"}]}},'
+    '"propertyNames":{"pattern":"^a"},"type":"object"}'
+)
+
 # The same of an input that is in no file: the words, the input, and the answer.
 COMMANDS_ON_TEXTS = [
     (
@@ -65,6 +72,7 @@ COMMANDS_ON_TEXTS = [
         '{"openapi":"3.1.x.0","info":{"title":"t","version":"1"},"paths":{"x-team":"a","/a":{}}}',
         '{"info":{"title":"t","version":"1"},"openapi":"3.1.0","paths":{"/a":{},"x-team":"a"}}\n',
     ),
+    (["schema"], SCHEMA, SCHEMA + "\n"),
     (["merge"], "[%s,%s]" % (FIRST, SECOND), MERGED + "\n"),
     (["nest", "/v1"], "[%s,%s]" % (FIRST, SECOND), NESTED + "\n"),
 ]
