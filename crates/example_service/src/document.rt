@@ -11,8 +11,8 @@ use std::borrow::CowStr;
 use utoipa::openapi::path::{HttpMethod, Operation, OperationBuilder};
 use utoipa::openapi::response::ResponseExt;
 use utoipa::openapi::{
-    Components, ComponentsBuilder, Info, ObjectBuilder, OpenApiBuilder, Paths, PathsBuilder,
-    RefOr, Response, Schema,
+    Components, ComponentsBuilder, Info, ObjectBuilder, OpenApiBuilder, Paths, PathsBuilder, RefOr,
+    Response, Schema,
 };
 use utoipa::{ComposeFault, OpenApi, PartialSchema, Path, ToSchema, openapi};
 
