@@ -1,28 +1,29 @@
 #!/usr/bin/env python3
 """Finds the least stack in which schemas, encodings, headers and callbacks as deep as a text can be are read, copied, written and dropped.
 
-usage: bench/stack.py      after `rt run < stdin` in crates/bench_reading, crates/utoipa_cases and crates/utoipa_document_cases
+usage: bench/stack.py      after `rt run < stdin` in crates/utoipa_cases and in crates/utoipa_document_cases
 
 A text nests 127 objects and lists. Each input nests schemas so deep in one of the nine members that hold schemas, encodings in one of
 the three that hold encodings, headers in encodings in contents of headers, or operations in callbacks of operations. The command
-`utoipa_doc schema` reads, writes and drops a schema; the cases `read TYPE` copy too; `bench_reading` parses, or parses and reads, and drops
-nothing. The case `callbacks` builds operations in more callbacks than a text can nest. Each figure is in KiB, to the next 4; the default stack has 8192.
+`utoipa_doc schema` reads, writes and drops a schema; the cases `read TYPE` copy too. The case `callbacks` builds operations in more
+callbacks than a text can nest. Each figure is in KiB, to the next 4; the default stack has 8192.
 """
 import os
 import resource
 import subprocess
 import sys
 
-from runs import program, stop_if_lacking
-
 HERE = os.path.dirname(os.path.abspath(__file__))
 COMMAND = os.path.join(HERE, "..", "utoipa_doc")
 
 
-CASES = program("utoipa_cases")
+def program_of_cases(name):
+    return os.path.join(HERE, "..", "crates", name, "out", name)
+
+
+CASES = program_of_cases("utoipa_cases")
 # The program that knows operations.
-DOCUMENT_CASES = program("utoipa_document_cases")
-READING = program("bench_reading")
+DOCUMENT_CASES = program_of_cases("utoipa_document_cases")
 
 # A member, what opens a level of it, what closes it, and how many levels there are.
 MEMBERS = (
@@ -83,21 +84,22 @@ def case_stack(program, type, text):
 
 
 def main():
-    stop_if_lacking((CASES, DOCUMENT_CASES, READING))
-    print("| Member | Levels | Parsed (KiB) | Parsed and read | Read, written and dropped | Copied too |")
-    print("|---|---|---|---|---|---|")
+    for program in (CASES, DOCUMENT_CASES):
+        if not os.path.isfile(program):
+            sys.exit("no program of cases: run `rt run < stdin` in crates/%s first" % os.path.basename(program))
+    print("| Member | Levels | Read, written and dropped (KiB) | Copied too |")
+    print("|---|---|---|---|")
     for name, begin, end, levels in MEMBERS:
         text = (begin * levels + "{}" + end * levels + "\n").encode()
         command = least_stack(lambda kib: answers([COMMAND, "schema"], text, text, kib))
-        alone = [least_stack(lambda kib: answers([READING, *it], text, b"", kib)) for it in (["parse"], [])]
-        print("| `%s` | %d | %d | %d | %d | %d |" % (name, levels, *alone, command, case_stack(CASES, "Schema", text)), flush=True)
+        print("| `%s` | %d | %d | %d |" % (name, levels, command, case_stack(CASES, "Schema", text)), flush=True)
     for program, type, name, begin, end, levels, innermost in HELD:
         text = (begin * levels + innermost + end * levels + "\n").encode()
-        print("| %s, `%s` | %d | | | | %d |" % (type, name, levels, case_stack(program, type, text)), flush=True)
+        print("| %s, `%s` | %d | | %d |" % (type, name, levels, case_stack(program, type, text)), flush=True)
     for levels in BUILT:
         asked = b"callbacks\t%d\n" % levels
         stack = least_stack(lambda kib: answers([DOCUMENT_CASES], asked, b"true\n", kib))
-        print("| Operation, `callbacks`, built | %d | | | | %d |" % (levels, stack), flush=True)
+        print("| Operation, `callbacks`, built | %d | | %d |" % (levels, stack), flush=True)
 
 
 if __name__ == "__main__":
