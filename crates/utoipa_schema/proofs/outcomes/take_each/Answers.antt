@@ -3,7 +3,7 @@ use Rattle.serde_json.specs.View.{view}
 use Rattle.utoipa_schema.specs.Outcomes.{documents}
 use Rattle.utoipa_schema.specs.Places.{read_place, of_combinations, of_array, of_object, of_content}
 use Rattle.utoipa_schema.proofs.Taken.{inner_read, first_of_four}
-use Rattle.utoipa_schema.proofs.outcomes.take_inner.Goals as goal
+use Rattle.utoipa_schema.proofs.outcomes.take_each.Goals as goal
 
 pub take_content_schema-requires : goal.take_content_schema-requires
 take_content_schema-requires c =
