@@ -4,8 +4,9 @@ use Rattle.std.proofs.lemmas.List.{map-append, take-map, take_at, drop_at, lengt
 use Rattle.serde_json.specs.Data.{Data}
 use Rattle.utoipa_base.specs.Docs.{Doc}
 use Rattle.utoipa_base.specs.declared.refs.RefOr.{RefOr}
-use Rattle.utoipa_schema.specs.Outcomes.{documents, outcome_doc}
-use Rattle.utoipa_schema.specs.Places.{read_place, at_each, in_list, in_map, in_one, of_combinations, of_array, of_object, of_content, inner}
+use Rattle.utoipa_schema.specs.Outcomes.{documents, outcome_doc, AreInner}
+use Rattle.utoipa_schema.specs.Places.{Place, read_place, at_each, in_list, in_map, in_one, of_combinations, of_array, of_object, of_content, inner}
+use Rattle.utoipa_schema.specs.declared.outcomes.InnerOutcomes.{InnerOutcomes}
 use Rattle.utoipa_schema.specs.declared.types.Schema.{Schema}
 
 drop-map : {X Y : Type 0} (f : X → Y) (n : ℕ) (xs : List X) → drop n (map f xs) ≡ map f (drop n xs)
@@ -63,3 +64,42 @@ unfolding inner
 inner_read d =
     map-append read_place (of_combinations d) _
     ∙ ap (λ l. map read_place (of_combinations d) ++ l) (map-append read_place (of_array d) _ ∙ ap (λ l. map read_place (of_array d) ++ l) (map-append read_place (of_object d) (of_content d)))
+
+-- ---- a tree without places
+
+both_empty : {X : Type 0} (xs ys : List X) → xs ++ ys ≡ [] → (xs ≡ []) × (ys ≡ [])
+both_empty [] ys e = (refl, e)
+both_empty (x ∷ xs) ys e = cc
+
+-- no member has an outcome
+pub record HasNone (o : InnerOutcomes) : Type 0 where
+  pub one_of : o.combinations.one_of.items ≡ []
+  pub all_of : o.combinations.all_of.items ≡ []
+  pub any_of : o.combinations.any_of.items ≡ []
+  pub items : o.array.items.items ≡ []
+  pub prefix_items : o.array.prefix_items.items ≡ []
+  pub properties : o.object.properties.items ≡ []
+  pub additional_properties : o.object.additional_properties.items ≡ []
+  pub property_names : o.object.property_names.items ≡ []
+  pub content_schema : o.content_schema.items ≡ []
+
+none_read : (os : List (Option (RefOr Schema))) (ps : List Place) → os ≡ [] → ps ≡ [] → documents os ≡ map read_place ps
+none_read os ps e f = ap documents e ∙ sym (ap (map read_place) f)
+
+pub none_inside : (d : Data) (o : InnerOutcomes) → inner d ≡ [] → HasNone o → AreInner d o
+unfolding inner of_combinations of_array of_object
+none_inside d o none has =
+    let combinations = both_empty (of_combinations d) _ none in
+    let array = both_empty (of_array d) _ combinations.1 in
+    let object = both_empty (of_object d) (of_content d) array.1 in
+    let one_of = both_empty (in_list true (codes "oneOf") d) _ combinations.0 in
+    let others = both_empty (in_list true (codes "allOf") d) _ one_of.1 in
+    let items = both_empty (in_one true (codes "items") d) _ array.0 in
+    let properties = both_empty (in_map true (codes "properties") d) _ object.0 in
+    let keys = both_empty (in_one true (codes "additionalProperties") d) _ properties.1 in
+    record {
+      combinations = record { one_of = none_read _ _ has.one_of one_of.0; all_of = none_read _ _ has.all_of others.0; any_of = none_read _ _ has.any_of others.1 };
+      array = record { items = none_read _ _ has.items items.0; prefix_items = none_read _ _ has.prefix_items items.1 };
+      object = record { properties = none_read _ _ has.properties properties.0; additional_properties = none_read _ _ has.additional_properties keys.0; property_names = none_read _ _ has.property_names keys.1 };
+      content_schema = none_read _ _ has.content_schema object.1;
+    }

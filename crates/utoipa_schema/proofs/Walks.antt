@@ -1,13 +1,15 @@
 -- The walk that finds the places of a tree, and its way back.
-use Rattle.std.proofs.Common.{suc, ◌≡◌, ℕ, ◌+◌, ◌<◌, ◌≤◌, List, [], ◌∷◌, ◌++◌, length, map, Bool, Option, Some, None, is_some, true, false, refl, ap, ◌∙◌, arith, append_assoc, codes}
-use Rattle.std.proofs.lemmas.List.{reverse-append}
+use Rattle.std.proofs.Common.{suc, ◌≡◌, ℕ, ◌+◌, ◌<◌, ◌≤◌, List, [], ◌∷◌, ◌++◌, length, map, Bool, Option, Some, None, is_some, true, false, All, refl, sym, ap, ◌∙◌, subst, arith, append_assoc, codes}
+use Rattle.std.proofs.lemmas.List.{reverse-append, map-append, length-append}
+use Rattle.std.proofs.lemmas.List.Elements.{All-nil, All-same, All-push}
 use Rattle.serde_json.specs.Data.{Data, null, boolean, number, string, array, object, Items, no_items, item, Members, no_members, member}
 use Rattle.serde_json.specs.Find.{get, as_array, as_object, as_null, as_bool}
 use Rattle.serde_json.specs.View.{view, items_view, members_view}
 use Rattle.serde_json.specs.declared.value.Value.{Value}
 use Rattle.serde_json.proofs.Views.{Entry}
 use Rattle.utoipa_base.specs.Values.{values, items_values, members_values, values_of, values_at}
-use Rattle.utoipa_schema.specs.Places.{Place, items_list, members_list, elements, entries, alone, part, at_each, in_list, in_map, in_one, of_combinations, of_array, of_object, of_content, inner, total, Reached, Walked}
+use Rattle.utoipa_schema.specs.Places.{Place, place_of, rows, IsMarked, items_list, members_list, elements, entries, alone, part, at_each, in_list, in_map, in_one, of_combinations, of_array, of_object, of_content, inner, total, Reached, Walked}
+use Rattle.utoipa_schema.specs.declared.places.TableRow.{TableRow}
 use Rattle.utoipa_schema.proofs.SchemaMembers.{schema_values}
 
 -- ---- the elements of a list and the values of an object
@@ -198,6 +200,40 @@ unvisit roots p table stack h = rw (reverse-append table (p ∷ [])) at h
 pub end : (roots stack : List Place) → Walked roots [] stack → stack ≡ roots
 unfolding Reached
 end roots stack h = h
+
+-- what the walk has come to: the rows of its table, and the places on its stack
+pub record Walking (roots : List Place) (table : List TableRow) (stack : List Place) : Type 0 where
+  pub walked : Walked roots (rows table) stack
+  pub few : length table + total stack ≤ total roots
+  pub marked : All IsMarked table
+
+pub walking_begun : (roots : List Place) (table : List TableRow) → table ≡ [] → Walking roots table roots
+walking_begun roots table none =
+    record {
+      walked = subst (λ t. Walked roots (rows t) roots) (sym none) (at_roots roots);
+      few = omega (arith, ap length none);
+      marked = All-same IsMarked table [] none (All-nil IsMarked);
+    }
+
+-- the place at the end of the stack is one more row, and its inner places are put there
+pub walking_step : (roots : List Place) (table new : List TableRow) (row : TableRow) (stack rest more : List Place) → Walking roots table stack → stack ≡ rest ++ place_of row.place ∷ []
+    → more ≡ rest ++ inner (view row.place.tree.now) → new ≡ table ++ row ∷ [] → IsMarked row → Walking roots new more
+walking_step roots table new row stack rest more so_far before put pushed marked =
+    let place = place_of row.place in
+    let was = subst (λ s. Walked roots (rows table) s) before so_far.walked in
+    let now = visit roots place (rows table) rest was in
+    let table_is : rows new ≡ rows table ++ place ∷ [] = ap rows pushed ∙ map-append _ table (row ∷ []) in
+    let longer : length new ≡ length table + 1 = ap length pushed ∙ length-append table (row ∷ []) in
+    record {
+      walked = subst (λ s. Walked roots (rows new) s) (sym put) (subst (λ t. Walked roots t (rest ++ inner place.1)) (sym table_is) now);
+      few = omega (arith, so_far.few, ap total before, total-last rest place, ap total put, total-append rest (inner place.1), inner_fewer place.1, longer);
+      marked = All-same IsMarked new (table ++ row ∷ []) pushed (All-push IsMarked table row so_far.marked marked);
+    }
+
+-- no more stands on the stack than before, so nothing was put there
+pub nothing_put : (more rest inside : List Place) → more ≡ rest ++ inside → length more ≤ length rest → inside ≡ []
+nothing_put more rest [] put few = refl
+nothing_put more rest (p ∷ ps) put few = absurd (omega (arith, few, ap length put, length-append rest (p ∷ ps)))
 
 pub inner-parts : (d : Data) → inner d ≡ of_combinations d ++ (of_array d ++ (of_object d ++ of_content d))
 unfolding inner

@@ -10,6 +10,7 @@ use Rattle.utoipa_base.specs.Kinds.{schema, ref_or}
 use Rattle.utoipa_base.specs.Reading.{read}
 use Rattle.utoipa_base.specs.Values.{values}
 use Rattle.utoipa_schema.specs.declared.places.SchemaPlace.{SchemaPlace}
+use Rattle.utoipa_schema.specs.declared.places.TableRow.{TableRow}
 
 abbrev pub Place : Type 0
 Place = Bool × Data
@@ -22,9 +23,16 @@ read_by false d = option_map own_doc (read schema d)
 abbrev pub read_place : Place → Option Doc
 read_place p = read_by p.0 p.1
 
+abbrev pub place_of : SchemaPlace → Place
+place_of p = (p.may_be_reference, view p.tree.now)
+
 -- the places that values of the program stand for
 abbrev pub places : List SchemaPlace → List Place
-places = map (λ p. (p.may_be_reference, view p.tree.now))
+places = map place_of
+
+-- the places of the rows of a table
+abbrev pub rows : List TableRow → List Place
+rows = map (λ r. place_of r.place)
 
 -- ---- the trees that a member holds
 
@@ -96,6 +104,10 @@ of_content d = in_one true (codes "contentSchema") d
 
 unfoldable pub inner : Data → List Place
 inner d = of_combinations d ++ (of_array d ++ (of_object d ++ of_content d))
+
+-- a row that says that there are no places inside says so of such a tree
+abbrev pub IsMarked : TableRow → Type 0
+IsMarked r = r.has_inner ≡ false → inner (view r.place.tree.now) ≡ []
 
 -- ---- the values of places
 

@@ -2,17 +2,17 @@
 //!
 //! The walk puts each place into the table after the one that it stands in. So where a row is the last that is left, its inner
 //! places have been read, and their outcomes are the last: they are taken off, and the row's own outcome takes their place.
-ghost use Rattle.std.specs.Prelude.{◌≡◌, ◌≤◌, ◌<◌, ◌+◌, IfOk, List, [], map, option_map, length, if◌then◌else◌, nat_lt};
+ghost use Rattle.std.specs.Prelude.{◌≡◌, ◌≤◌, ◌<◌, ◌+◌, All, IfOk, List, [], map, option_map, length, if◌then◌else◌, nat_lt};
 ghost use Rattle.serde_json.specs.View.{view};
 ghost use Rattle.utoipa_base.specs.Docs.{own_doc};
 ghost use Rattle.utoipa_base.specs.Kinds.{schema, ref_or};
 ghost use Rattle.utoipa_base.specs.Reading.{read};
 ghost use Rattle.utoipa_schema.specs.Outcomes.{documents, outcome_doc, counts, count_of, AreInner, counts_of_inner};
-ghost use Rattle.utoipa_schema.specs.Places.{Place, places, read_by, read_place as place_document, total, Walked};
+ghost use Rattle.utoipa_schema.specs.Places.{Place, places, rows, IsMarked, read_by, read_place as place_document, total, Walked};
 
 use crate::alternatives::{if_fitting, schema_from};
 use crate::outcomes::{InnerOutcomes, Outcomes, take_inner};
-use crate::places::{SchemaPlace, walk};
+use crate::places::{SchemaPlace, TableRow, walk};
 use crate::types::Schema;
 use serde_json::Value;
 use std::alloc::{AllocError, Global};
@@ -37,18 +37,20 @@ pub(crate) fn read_places(
 /// where memory runs out.
 fn fill(
     alloc: Global,
-    mut table: Vec<SchemaPlace<'_>>,
+    mut table: Vec<TableRow<'_>>,
     readings: &mut Readings,
 ) -> Result<Outcomes, AllocError>
-    requires { (roots : List Place) × Walked roots (places table.items) [] }
-    ensures read { IfOk result (λ filled. (roots : List Place) → Walked roots (places table.entry.items) [] → documents filled.items ≡ map place_document roots) }
+    requires walked { (roots : List Place) × Walked roots (rows table.items) [] }
+    requires marked { All IsMarked table.items }
+    ensures read { IfOk result (λ filled. (roots : List Place) → Walked roots (rows table.entry.items) [] → documents filled.items ≡ map place_document roots) }
     ensures grows { readings.old ≤ readings.new }
     ensures at_most { readings.new ≤ readings.old + length table.entry.items }
     ensures at_least { IfOk result (λ filled. readings.new < u64.MAX → readings.old + counts (documents filled.items) ≤ readings.new) }
 {
     let mut filled = Vec::new(alloc);
-    'fill: while let Some(place) = table.pop() {
-        let inner = take_inner(place.tree, &mut filled)?;
+    'fill: while let Some(row) = table.pop() {
+        let place = row.place;
+        let inner = take_inner(alloc, place.tree, row.has_inner, &mut filled)?;
         let outcome = read_place(alloc, place.tree, place.may_be_reference, inner, readings)?;
         filled.push(outcome)?;
     }

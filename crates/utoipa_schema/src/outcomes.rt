@@ -2,7 +2,8 @@
 //!
 //! The places inside a tree are read before it. Their outcomes stand at the end of those that have been read so far, in the order
 //! in which the walk found the places, and are taken off there, the last member first.
-ghost use Rattle.std.specs.Prelude.{◌≡◌, ◌≤◌, ◌++◌, IfOk, List, Option, map, codes, length};
+ghost use Rattle.std.specs.Prelude.{◌≡◌, ◌≤◌, ◌++◌, [], IfOk, List, Option, false, map, length};
+ghost use Rattle.serde_json.specs.Data.{Data};
 ghost use Rattle.serde_json.specs.View.{view};
 ghost use Rattle.serde_json.specs.Find.{get};
 ghost use Rattle.utoipa_base.specs.Docs.{Doc};
@@ -11,7 +12,7 @@ ghost use Rattle.utoipa_schema.specs.Places.{read_place, elements, entries, alon
 
 use crate::types::Schema;
 use serde_json::Value;
-use std::alloc::AllocError;
+use std::alloc::{AllocError, Global};
 use utoipa_base::RefOr;
 
 /// What places were read as: none for a place that fits nothing.
@@ -184,8 +185,8 @@ pub(crate) fn take_content_schema(
     Ok(content_schema)
 }
 
-/// Takes the outcomes in a tree off the end. Fails where memory runs out.
-pub(crate) fn take_inner(tree: &Value, filled: &mut Outcomes) -> Result<InnerOutcomes, AllocError>
+/// Takes the outcomes in a tree off the end, of the members that may hold places. Fails where memory runs out.
+fn take_each(tree: &Value, filled: &mut Outcomes) -> Result<InnerOutcomes, AllocError>
     requires { (rest : List (Option Doc)) × (documents filled.old.items ≡ rest ++ map read_place (inner (view tree.now))) }
     ensures { IfOk result (λ taken. (rest : List (Option Doc)) → documents filled.old.items ≡ rest ++ map read_place (inner (view tree.now))
         → AreInner (view tree.now) taken × (documents filled.new.items ≡ rest)) }
@@ -200,4 +201,46 @@ pub(crate) fn take_inner(tree: &Value, filled: &mut Outcomes) -> Result<InnerOut
         object,
         content_schema,
     })
+}
+
+/// The outcomes in a tree that has no places.
+fn no_outcomes(alloc: Global) -> InnerOutcomes
+    ensures { (d : Data) → inner d ≡ [] → AreInner d result }
+{
+    InnerOutcomes {
+        combinations: CombinationOutcomes {
+            one_of: Vec::new(alloc),
+            all_of: Vec::new(alloc),
+            any_of: Vec::new(alloc),
+        },
+        array: ArrayOutcomes {
+            items: Vec::new(alloc),
+            prefix_items: Vec::new(alloc),
+        },
+        object: ObjectOutcomes {
+            properties: Vec::new(alloc),
+            additional_properties: Vec::new(alloc),
+            property_names: Vec::new(alloc),
+        },
+        content_schema: Vec::new(alloc),
+    }
+}
+
+/// Takes the outcomes in a tree off the end, if there are places in it. Fails where memory runs out.
+pub(crate) fn take_inner(
+    alloc: Global,
+    tree: &Value,
+    has_inner: bool,
+    filled: &mut Outcomes,
+) -> Result<InnerOutcomes, AllocError>
+    requires marked { has_inner ≡ false → inner (view tree.now) ≡ [] }
+    requires last { (rest : List (Option Doc)) × (documents filled.old.items ≡ rest ++ map read_place (inner (view tree.now))) }
+    ensures { IfOk result (λ taken. (rest : List (Option Doc)) → documents filled.old.items ≡ rest ++ map read_place (inner (view tree.now))
+        → AreInner (view tree.now) taken × (documents filled.new.items ≡ rest)) }
+{
+    if has_inner {
+        take_each(tree, filled)
+    } else {
+        Ok(no_outcomes(alloc))
+    }
 }

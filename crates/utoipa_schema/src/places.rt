@@ -2,9 +2,9 @@
 //!
 //! A place is a tree that may be a schema. A schema has inner places at its members that hold schemas. Null and a boolean are
 //! no place at a member that holds one, since neither is a schema.
-ghost use Rattle.std.specs.Prelude.{◌≡◌, ◌≤◌, ◌++◌, [], IfOk, OnOk, codes, length};
+ghost use Rattle.std.specs.Prelude.{◌≡◌, ◌≤◌, ◌++◌, [], All, IfOk, OnOk, length};
 ghost use Rattle.serde_json.specs.View.{view};
-ghost use Rattle.utoipa_schema.specs.Places.{places, elements, entries, alone, at_each, in_list, in_map, in_one, of_combinations, of_array, of_object, of_content, inner, total, Walked};
+ghost use Rattle.utoipa_schema.specs.Places.{places, rows, IsMarked, elements, entries, alone, at_each, in_list, in_map, in_one, of_combinations, of_array, of_object, inner, total, Walked};
 
 use serde_json::Value;
 use std::alloc::{AllocError, Global};
@@ -16,6 +16,15 @@ pub(crate) struct SchemaPlace<'a> {
     pub(crate) tree: &'a Value,
     /// Whether it may be a reference.
     pub(crate) may_be_reference: bool,
+}
+
+/// A row of the table of places.
+#[derive(Drop)]
+pub(crate) struct TableRow<'a> {
+    /// The place.
+    pub(crate) place: SchemaPlace<'a>,
+    /// Whether there are places in it: most have none, and nothing is looked for there again.
+    pub(crate) has_inner: bool,
 }
 
 /// Puts each element of a list on a stack; anything else has none. Fails where memory runs out.
@@ -173,15 +182,18 @@ fn push_inner<'a>(stack: &mut Vec<SchemaPlace<'a>>, tree: &'a Value) -> Result<(
 pub(crate) fn walk<'a>(
     alloc: Global,
     roots: Vec<SchemaPlace<'a>>,
-) -> Result<Vec<SchemaPlace<'a>>, AllocError>
-    ensures walked { IfOk result (λ table. Walked (places roots.entry.items) (places table.items) []) }
+) -> Result<Vec<TableRow<'a>>, AllocError>
+    ensures walked { IfOk result (λ table. Walked (places roots.entry.items) (rows table.items) []) }
     ensures few { IfOk result (λ table. length table.items ≤ total (places roots.entry.items)) }
+    ensures marked { IfOk result (λ table. All IsMarked table.items) }
 {
     let mut table = Vec::new(alloc);
     let mut stack = roots;
     'walk: while let Some(place) = stack.pop() {
+        let standing = stack.len();
         push_inner(&mut stack, place.tree)?;
-        table.push(place)?;
+        let has_inner = stack.len() > standing;
+        table.push(TableRow { place, has_inner })?;
     }
     Ok(table)
 }

@@ -1,5 +1,5 @@
 //! Printing schemas, which hold each other: the members of each in the order of their names.
-ghost use Rattle.std.specs.Prelude.{◌≡◌, ◌∷◌, [], IfOk, OnOk, codes};
+ghost use Rattle.std.specs.Prelude.{◌∷◌, [], IfOk, OnOk, codes};
 ghost use Rattle.utoipa_base.specs.Docs.{doc, no_docs};
 ghost use Rattle.utoipa_base.specs.InOrder.{row_members, PrintsAmong};
 ghost use Rattle.utoipa_base.specs.Kinds.{schema, additional_properties as additional_kind, ref_or, list_of, map_of, optional, defaulted};

@@ -1,43 +1,38 @@
-use Rattle.std.proofs.Common.{◌≡◌, ◌++◌, ◌∷◌, [], ◌+◌, ◌∙◌, sym, ap, subst, length, arith, rules}
-use Rattle.std.proofs.lemmas.List.{map-append, length-append}
-use Rattle.serde_json.specs.View.{view}
-use Rattle.utoipa_schema.specs.Places.{places, Place, Walked, inner, total}
-use Rattle.utoipa_schema.proofs.Walks.{at_roots, visit, total-last, total-append, inner_fewer}
+use Rattle.std.proofs.Common.{◌≡◌, ◌++◌, ◌∷◌, [], ◌∙◌, ap, subst, arith, rules}
+use Rattle.std.proofs.lemmas.Bool.{ltb-false}
+use Rattle.std.proofs.lemmas.List.{map-append, length-map}
+use Rattle.utoipa_schema.specs.Places.{places, place_of, rows, Place, inner, total, Walked}
+use Rattle.utoipa_schema.proofs.Walks.{walking_begun, walking_step, nothing_put, total-last, total-append, inner_fewer}
 use Rattle.utoipa_schema.proofs.places.walk.Goals as goal
 
 pub walk-init : goal.walk-init
 walk-init c =
-    let roots = places c.args.roots.items in
-    let none : c.new-table.result.items ≡ [] = search rules in (
-      subst (λ ps. Walked roots (places ps) roots) (sym none) (at_roots roots),
-      omega (arith, ap length none),
-    )
+    let none : c.new-table.result.items ≡ [] = search rules in
+    walking_begun (places c.args.roots.items) _ none
 
 pub walk-smaller : goal.walk-smaller
 walk-smaller c =
-    let place : Place = (c.in-Some.place.may_be_reference, view c.in-Some.place.tree.now) in
+    let place : Place = place_of c.in-Some.place in
     let rest = places c.pop.new.self.items in
     let before : places c.walk.stack.items ≡ rest ++ place ∷ [] = ap places c.in-Some.ensures.items ∙ map-append _ c.pop.new.self.items _ in
     omega (arith, ap total before, total-last rest place, ap total c.in_ok-push_inner.ensures, total-append rest (inner place.1), inner_fewer place.1)
 
 pub walk-preserved : goal.walk-preserved
 walk-preserved c =
-    let roots = places c.args.roots.items in
-    let place : Place = (c.in-Some.place.may_be_reference, view c.in-Some.place.tree.now) in
+    let place : Place = place_of c.in-Some.place in
     let rest = places c.pop.new.self.items in
     let before : places c.walk.stack.items ≡ rest ++ place ∷ [] = ap places c.in-Some.ensures.items ∙ map-append _ c.pop.new.self.items _ in
-    let table : places c.push.new.self.items ≡ places c.walk.table.items ++ place ∷ [] = ap places c.in_ok-push.ensures.items ∙ map-append _ c.walk.table.items _ in
-    let more : length c.push.new.self.items ≡ length c.walk.table.items + 1 = ap length c.in_ok-push.ensures.items ∙ length-append c.walk.table.items _ in
-    let was = subst (λ s. Walked roots (places c.walk.table.items) s) before c.walk.invariant.0 in
-    let now = visit roots place (places c.walk.table.items) rest was in (
-      subst (λ s. Walked roots (places c.push.new.self.items) s) (sym c.in_ok-push_inner.ensures) (subst (λ rows. Walked roots rows (rest ++ inner place.1)) (sym table) now),
-      omega (arith, c.walk.invariant.1, ap total before, total-last rest place, ap total c.in_ok-push_inner.ensures, total-append rest (inner place.1), inner_fewer place.1, more),
-    )
+    walking_step _ _ _ _ _ rest _ c.walk.invariant before c.in_ok-push_inner.ensures c.in_ok-push.ensures.items (λ said.
+    nothing_put _ rest _ c.in_ok-push_inner.ensures
+    (omega (arith, ltb-false _ _ said, c.len-standing.ensures, c.len.ensures, length-map c.push_inner.new.stack.items place_of, length-map c.pop.new.self.items place_of)))
 
 pub returns-clause-walked : goal.returns-clause-walked
 returns-clause-walked c =
     let empty : c.walk.stack.items ≡ [] = search rules in
-    subst (λ ps. Walked (places c.args.roots.items) (places c.walk.table.items) (places ps)) empty c.walk.invariant.0
+    subst (λ ps. Walked (places c.args.roots.items) (rows c.walk.table.items) (places ps)) empty c.walk.invariant.walked
 
 pub returns-clause-few : goal.returns-clause-few
-returns-clause-few c = omega (arith, c.walk.invariant.1)
+returns-clause-few c = omega (arith, c.walk.invariant.few)
+
+pub returns-clause-marked : goal.returns-clause-marked
+returns-clause-marked c = c.walk.invariant.marked
