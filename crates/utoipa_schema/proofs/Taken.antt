@@ -3,11 +3,9 @@ use Rattle.std.proofs.Common.{zero, suc, ◌≡◌, ℕ, Bool, true, false, ◌+
 use Rattle.std.proofs.lemmas.List.{map-append, take-map, take_at, drop_at, length-append, length-map}
 use Rattle.serde_json.specs.Data.{Data}
 use Rattle.utoipa_base.specs.Docs.{Doc}
-use Rattle.utoipa_base.specs.declared.refs.RefOr.{RefOr}
-use Rattle.utoipa_schema.specs.Outcomes.{documents, outcome_doc, AreInner}
+use Rattle.utoipa_schema.specs.Outcomes.{Outcome, documents, outcome_doc, AreInner}
 use Rattle.utoipa_schema.specs.Places.{Place, read_place, at_each, in_list, in_map, in_one, of_combinations, of_array, of_object, of_content, inner}
 use Rattle.utoipa_schema.specs.declared.outcomes.InnerOutcomes.{InnerOutcomes}
-use Rattle.utoipa_schema.specs.declared.types.Schema.{Schema}
 
 drop-map : {X Y : Type 0} (f : X → Y) (n : ℕ) (xs : List X) → drop n (map f xs) ≡ map f (drop n xs)
 drop-map f zero xs = refl
@@ -28,7 +26,7 @@ pub sized : (b : Bool) (ds : List Data) (n : ℕ) → n ≡ length ds → length
 sized b ds n is = length-map (at_each b ds) read_place ∙ length-map ds (λ d. (b, d)) ∙ sym is
 
 -- there are as many to take
-pub room : (os : List (Option (RefOr Schema))) (before after : List (Option Doc)) (n : ℕ) → documents os ≡ before ++ after → length after ≡ n → n ≤ length os
+pub room : (os : List Outcome) (before after : List (Option Doc)) (n : ℕ) → documents os ≡ before ++ after → length after ≡ n → n ≤ length os
 room os before after n is many = omega (arith, many, ap length is, length-append before after, length-map os outcome_doc)
 
 -- what taking the last n of f leaves: they, and the others
@@ -83,7 +81,7 @@ pub record HasNone (o : InnerOutcomes) : Type 0 where
   pub property_names : o.object.property_names.items ≡ []
   pub content_schema : o.content_schema.items ≡ []
 
-none_read : (os : List (Option (RefOr Schema))) (ps : List Place) → os ≡ [] → ps ≡ [] → documents os ≡ map read_place ps
+none_read : (os : List Outcome) (ps : List Place) → os ≡ [] → ps ≡ [] → documents os ≡ map read_place ps
 none_read os ps e f = ap documents e ∙ sym (ap (map read_place) f)
 
 pub none_inside : (d : Data) (o : InnerOutcomes) → inner d ≡ [] → HasNone o → AreInner d o

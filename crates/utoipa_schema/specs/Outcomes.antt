@@ -1,5 +1,6 @@
 -- What places were read as, by the member that they stand in.
-use Rattle.std.specs.Prelude.{◌≡◌, ℕ, ◌+◌, ◌≤◌, List, [], ◌∷◌, true, false, map, Option, None, Some, option_map, codes, Result, IfOk, IfErr}
+use Rattle.std.specs.Prelude.{◌≡◌, ℕ, ◌+◌, ◌≤◌, List, [], ◌∷◌, true, false, map, Option, None, Some, option_map, codes, Box, Result, IfOk, IfErr}
+use Rattle.std.specs.declared.alloc.Global.{Global}
 use Rattle.serde_json.specs.Data.{Data}
 use Rattle.utoipa_base.specs.Docs.{Doc, list_doc, own_doc, Docs, no_docs}
 use Rattle.utoipa_base.specs.Faults.{Refuses}
@@ -7,6 +8,7 @@ use Rattle.utoipa_base.specs.Kinds.{schema}
 use Rattle.utoipa_base.specs.Reading.{both}
 use Rattle.utoipa_base.specs.Refs.{ref_or_doc}
 use Rattle.utoipa_base.specs.Values.{schema_count}
+use Rattle.utoipa_base.specs.Views.{boxed}
 use Rattle.utoipa_base.specs.declared.fault.ReadFault.{ReadFault}
 use Rattle.utoipa_base.specs.declared.refs.RefOr.{RefOr}
 use Rattle.utoipa_schema.specs.Docs.{schema_doc}
@@ -17,11 +19,15 @@ use Rattle.utoipa_schema.specs.declared.outcomes.ObjectOutcomes.{ObjectOutcomes}
 use Rattle.utoipa_schema.specs.declared.outcomes.InnerOutcomes.{InnerOutcomes}
 use Rattle.utoipa_schema.specs.declared.types.Schema.{Schema}
 
--- the document of an outcome, if it is one
-abbrev pub outcome_doc : Option (RefOr Schema) → Option Doc
-outcome_doc = option_map (ref_or_doc schema schema_doc)
+-- what a place was read as, if it is something
+abbrev pub Outcome : Type 0
+Outcome = Option (Box (RefOr Schema) Global)
 
-abbrev pub documents : List (Option (RefOr Schema)) → List (Option Doc)
+-- its document
+abbrev pub outcome_doc : Outcome → Option Doc
+outcome_doc = option_map (boxed (ref_or_doc schema schema_doc))
+
+abbrev pub documents : List Outcome → List (Option Doc)
 documents = map outcome_doc
 
 -- the schema places of the documents that there are

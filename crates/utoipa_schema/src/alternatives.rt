@@ -4,13 +4,14 @@
 //! alternative has any of these members but `contentSchema`, which is taken only where an array or an object fits.
 ghost use Rattle.std.specs.Prelude.{◌≡◌, ◌≤◌, ◌+◌, None, Some, Ok, IfOk, IfErr, MatchOption, option_map, map, true, codes};
 ghost use Rattle.serde_json.specs.View.{view};
+ghost use Rattle.utoipa_base.specs.Docs.{own_doc};
 ghost use Rattle.utoipa_base.specs.Faults.{Refuses, fitting as fitting_of};
 ghost use Rattle.utoipa_base.specs.Kinds.{schema, named, one_of_schema, all_of_schema, any_of_schema, array_schema, object_schema};
 ghost use Rattle.utoipa_base.specs.Reading.{read};
 ghost use Rattle.utoipa_base.specs.Values.{schema_count};
 ghost use Rattle.utoipa_schema.specs.Choice.{IsNoCombination, ContentSchema, content_schema_doc, HasContent};
-ghost use Rattle.utoipa_schema.specs.Docs.{schema_doc, one_of_doc, all_of_doc, any_of_doc, array_doc, object_doc};
-ghost use Rattle.utoipa_schema.specs.Outcomes.{documents, counts, count_of, Fits, AreCombinations, AreOfArray, AreOfObject, AreInner, counts_of_combinations, counts_of_array, counts_of_object, counts_of_inner};
+ghost use Rattle.utoipa_schema.specs.Docs.{one_of_doc, all_of_doc, any_of_doc, array_doc, object_doc};
+ghost use Rattle.utoipa_schema.specs.Outcomes.{documents, outcome_doc, counts, count_of, Fits, AreCombinations, AreOfArray, AreOfObject, AreInner, counts_of_combinations, counts_of_array, counts_of_object, counts_of_inner};
 ghost use Rattle.utoipa_schema.specs.Places.{read_place, in_list};
 
 use crate::assemble::{
@@ -22,7 +23,7 @@ use crate::members::{
     prefix_items_from, properties_from, property_names_from,
 };
 use crate::outcomes::{
-    ArrayOutcomes, CombinationOutcomes, InnerOutcomes, ObjectOutcomes, Outcomes,
+    ArrayOutcomes, CombinationOutcomes, InnerOutcomes, ObjectOutcomes, Outcome, Outcomes,
 };
 use crate::types::{AllOf, AnyOf, Array, Object, OneOf, Schema};
 use serde_json::Value;
@@ -109,7 +110,7 @@ pub(crate) fn array_from(
         items,
         prefix_items,
     } = outcomes;
-    let items = array_items_from(alloc, tree, items)?;
+    let items = array_items_from(tree, items)?;
     let prefix_items = prefix_items_from(alloc, tree, prefix_items)?;
     assemble_array(alloc, tree, items, prefix_items)
 }
@@ -150,10 +151,10 @@ fn combination_from(
     alloc: Global,
     tree: &Value,
     outcomes: CombinationOutcomes,
-) -> Result<Option<Schema>, AllocError>
+) -> Result<Outcome, AllocError>
     requires { AreCombinations (view tree.now) outcomes }
-    ensures read { IfOk result (λ o. MatchOption o (IsNoCombination (view tree.now)) (λ s. read schema (view tree.now) ≡ Some (schema_doc s))) }
-    ensures counted { IfOk result (λ o. count_of (option_map schema_doc o) ≤ 1 + counts_of_combinations outcomes) }
+    ensures read { IfOk result (λ o. MatchOption o (IsNoCombination (view tree.now)) (λ place. outcome_doc (Some place) ≡ option_map own_doc (read schema (view tree.now)))) }
+    ensures counted { IfOk result (λ o. count_of (outcome_doc o) ≤ 1 + counts_of_combinations outcomes) }
 {
     let CombinationOutcomes {
         one_of,
@@ -161,13 +162,13 @@ fn combination_from(
         any_of,
     } = outcomes;
     if let Some(one_of) = if_fitting(one_of_from(alloc, tree, one_of))? {
-        return Ok(Some(Schema::OneOf(one_of)));
+        return Ok(Some(Box::new(alloc, RefOr::T(Schema::OneOf(one_of)))?));
     }
     if let Some(all_of) = if_fitting(all_of_from(alloc, tree, all_of))? {
-        return Ok(Some(Schema::AllOf(all_of)));
+        return Ok(Some(Box::new(alloc, RefOr::T(Schema::AllOf(all_of)))?));
     }
     match if_fitting(any_of_from(alloc, tree, any_of))? {
-        Some(any_of) => Ok(Some(Schema::AnyOf(any_of))),
+        Some(any_of) => Ok(Some(Box::new(alloc, RefOr::T(Schema::AnyOf(any_of)))?)),
         None => Ok(None),
     }
 }
@@ -179,18 +180,18 @@ fn array_or_object_from(
     array: ArrayOutcomes,
     object: ObjectOutcomes,
     content_schema: Option<Box<RefOr<Schema>>>,
-) -> Result<Option<Schema>, AllocError>
+) -> Result<Outcome, AllocError>
     requires array { AreOfArray (view tree.now) array }
     requires object { AreOfObject (view tree.now) object }
     requires no_combination { IsNoCombination (view tree.now) }
     requires content { HasContent (view tree.now) content_schema }
-    ensures read { IfOk result (λ o. read schema (view tree.now) ≡ option_map schema_doc o) }
-    ensures counted { IfOk result (λ o. count_of (option_map schema_doc o)
+    ensures read { IfOk result (λ o. outcome_doc o ≡ option_map own_doc (read schema (view tree.now))) }
+    ensures counted { IfOk result (λ o. count_of (outcome_doc o)
         ≤ 1 + (counts_of_array array + (counts_of_object object + schema_count (content_schema_doc content_schema)))) }
 {
     if let Some(array) = if_fitting(array_from(alloc, tree, array))? {
         let array = array_with_content_schema(array, content_schema);
-        return Ok(Some(Schema::Array(array)));
+        return Ok(Some(Box::new(alloc, RefOr::T(Schema::Array(array)))?));
     }
     if !may_be_object(tree) {
         return Ok(None);
@@ -198,7 +199,7 @@ fn array_or_object_from(
     match if_fitting(object_from(alloc, tree, object))? {
         Some(object) => {
             let object = object_with_content_schema(object, content_schema);
-            Ok(Some(Schema::Object(object)))
+            Ok(Some(Box::new(alloc, RefOr::T(Schema::Object(object)))?))
         }
         None => Ok(None),
     }
@@ -209,10 +210,10 @@ pub(crate) fn schema_from(
     alloc: Global,
     tree: &Value,
     outcomes: InnerOutcomes,
-) -> Result<Option<Schema>, AllocError>
+) -> Result<Outcome, AllocError>
     requires { AreInner (view tree.now) outcomes }
-    ensures read { IfOk result (λ o. read schema (view tree.now) ≡ option_map schema_doc o) }
-    ensures counted { IfOk result (λ o. count_of (option_map schema_doc o) ≤ 1 + counts_of_inner outcomes) }
+    ensures read { IfOk result (λ o. outcome_doc o ≡ option_map own_doc (read schema (view tree.now))) }
+    ensures counted { IfOk result (λ o. count_of (outcome_doc o) ≤ 1 + counts_of_inner outcomes) }
 {
     let InnerOutcomes {
         combinations,
@@ -223,7 +224,7 @@ pub(crate) fn schema_from(
     if let Some(combination) = combination_from(alloc, tree, combinations)? {
         return Ok(Some(combination));
     }
-    match if_fitting(content_schema_from(alloc, tree, content_schema))? {
+    match if_fitting(content_schema_from(tree, content_schema))? {
         Some(content_schema) => { array_or_object_from(alloc, tree, array, object, content_schema) }
         None => Ok(None),
     }

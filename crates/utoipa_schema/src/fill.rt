@@ -2,18 +2,16 @@
 //!
 //! The walk puts each place into the table after the one that it stands in. So where a row is the last that is left, its inner
 //! places have been read, and their outcomes are the last: they are taken off, and the row's own outcome takes their place.
-ghost use Rattle.std.specs.Prelude.{◌≡◌, ◌≤◌, ◌<◌, ◌+◌, All, IfOk, List, [], map, option_map, length, if◌then◌else◌, nat_lt};
+ghost use Rattle.std.specs.Prelude.{◌≡◌, ◌≤◌, ◌<◌, ◌+◌, All, IfOk, List, [], map, length, if◌then◌else◌, nat_lt};
 ghost use Rattle.serde_json.specs.View.{view};
-ghost use Rattle.utoipa_base.specs.Docs.{own_doc};
 ghost use Rattle.utoipa_base.specs.Kinds.{schema, ref_or};
 ghost use Rattle.utoipa_base.specs.Reading.{read};
 ghost use Rattle.utoipa_schema.specs.Outcomes.{documents, outcome_doc, counts, count_of, AreInner, counts_of_inner};
 ghost use Rattle.utoipa_schema.specs.Places.{Place, places, rows, IsMarked, read_by, read_place as place_document, total, Walked};
 
 use crate::alternatives::{if_fitting, schema_from};
-use crate::outcomes::{InnerOutcomes, Outcomes, take_inner};
+use crate::outcomes::{InnerOutcomes, Outcome, Outcomes, take_inner};
 use crate::places::{SchemaPlace, TableRow, walk};
-use crate::types::Schema;
 use serde_json::Value;
 use std::alloc::{AllocError, Global};
 use utoipa_base::{Readings, Ref, RefOr, Tree};
@@ -66,7 +64,7 @@ fn read_place(
     may_be_reference: bool,
     inner: InnerOutcomes,
     readings: &mut Readings,
-) -> Result<Option<RefOr<Schema>>, AllocError>
+) -> Result<Outcome, AllocError>
     requires { AreInner (view tree.now) inner }
     ensures read { IfOk result (λ o. outcome_doc o ≡ read_by may_be_reference (view tree.now)) }
     ensures ticked { readings.new ≡ (if nat_lt readings.old u64.MAX then readings.old + 1 else readings.old) }
@@ -76,7 +74,7 @@ fn read_place(
     if may_be_reference {
         reference_or_schema_from(alloc, tree, inner)
     } else {
-        own_schema_from(alloc, tree, inner)
+        schema_from(alloc, tree, inner)
     }
 }
 
@@ -85,30 +83,14 @@ fn reference_or_schema_from(
     alloc: Global,
     tree: &Value,
     inner: InnerOutcomes,
-) -> Result<Option<RefOr<Schema>>, AllocError>
+) -> Result<Outcome, AllocError>
     requires { AreInner (view tree.now) inner }
     ensures read { IfOk result (λ o. outcome_doc o ≡ read (ref_or schema) (view tree.now)) }
     ensures counted { IfOk result (λ o. count_of (outcome_doc o) ≤ 1 + counts_of_inner inner) }
 {
     let mut uncounted = Readings::new();
     match if_fitting(Ref::read_plain(alloc, tree, &mut uncounted))? {
-        Some(reference) => Ok(Some(RefOr::Ref(reference))),
-        None => own_schema_from(alloc, tree, inner),
-    }
-}
-
-/// A schema, or none. Fails where memory runs out.
-fn own_schema_from(
-    alloc: Global,
-    tree: &Value,
-    inner: InnerOutcomes,
-) -> Result<Option<RefOr<Schema>>, AllocError>
-    requires { AreInner (view tree.now) inner }
-    ensures read { IfOk result (λ o. outcome_doc o ≡ option_map own_doc (read schema (view tree.now))) }
-    ensures counted { IfOk result (λ o. count_of (outcome_doc o) ≤ 1 + counts_of_inner inner) }
-{
-    match schema_from(alloc, tree, inner)? {
-        Some(schema) => Ok(Some(RefOr::T(schema))),
-        None => Ok(None),
+        Some(reference) => Ok(Some(Box::new(alloc, RefOr::Ref(reference))?)),
+        None => schema_from(alloc, tree, inner),
     }
 }

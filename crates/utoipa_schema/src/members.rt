@@ -12,7 +12,7 @@ ghost use Rattle.utoipa_schema.specs.Docs.{places_doc, additional_properties_doc
 ghost use Rattle.utoipa_schema.specs.Outcomes.{documents, outcome_doc, own_part, counts, last, all_of_list, Fits};
 ghost use Rattle.utoipa_schema.specs.Places.{read_place, at_each, elements, entries, alone, in_list, in_map, in_one, of_content};
 
-use crate::outcomes::Outcomes;
+use crate::outcomes::{Outcome, Outcomes};
 use crate::types::{AdditionalProperties, ArrayItems, Schema};
 use serde_json::Value;
 use std::alloc::Global;
@@ -26,7 +26,7 @@ fn all_places(alloc: Global, outcomes: Outcomes) -> Result<Vec<RefOr<Schema>>, R
     let mut list = Vec::new(alloc);
     for outcome in outcomes {
         match outcome {
-            Some(place) => list.push(place)?,
+            Some(place) => list.push(Box::into_inner(place))?,
             None => return Err(ReadFault::Alternative),
         }
     }
@@ -34,12 +34,12 @@ fn all_places(alloc: Global, outcomes: Outcomes) -> Result<Vec<RefOr<Schema>>, R
 }
 
 /// The schema that a place holds, where it is no reference and fits one.
-fn own_schema(outcome: Option<RefOr<Schema>>) -> Option<Schema>
+fn own_schema(outcome: Outcome) -> Option<Schema>
     ensures { option_map schema_doc result ≡ own_part (outcome_doc outcome) }
 {
-    match outcome {
-        Some(RefOr::T(schema)) => Some(schema),
-        Some(RefOr::Ref(_)) | None => None,
+    match Box::into_inner(outcome?) {
+        RefOr::T(schema) => Some(schema),
+        RefOr::Ref(_) => None,
     }
 }
 
@@ -58,8 +58,8 @@ fn all_schemas(alloc: Global, outcomes: Outcomes) -> Result<Vec<Schema>, ReadFau
 }
 
 /// The one place that there is. Fails with `Alternative` where it fits nothing, and where there is none.
-pub(crate) fn only_place(mut outcomes: Outcomes) -> Result<RefOr<Schema>, ReadFault>
-    ensures { Fits (last (documents outcomes.items)) (ref_or_doc schema schema_doc) result (counts (documents outcomes.items)) }
+pub(crate) fn only_place(mut outcomes: Outcomes) -> Result<Box<RefOr<Schema>>, ReadFault>
+    ensures { Fits (last (documents outcomes.items)) (boxed (ref_or_doc schema schema_doc)) result (counts (documents outcomes.items)) }
 {
     let Some(outcome) = outcomes.pop() else {
         return Err(ReadFault::Alternative);
@@ -135,27 +135,20 @@ pub(crate) fn places_by_name(
             return Err(ReadFault::Alternative);
         };
         let name = key.clone()?;
-        drop(map.insert(name, place)?);
+        drop(map.insert(name, Box::into_inner(place))?);
     }
     Ok(map)
 }
 
 /// What the items of an array are: `false`, a reference, or a schema. Fails where the tree is none of these.
-pub(crate) fn items_from(
-    alloc: Global,
-    tree: &Value,
-    outcomes: Outcomes,
-) -> Result<ArrayItems, ReadFault>
+pub(crate) fn items_from(tree: &Value, outcomes: Outcomes) -> Result<ArrayItems, ReadFault>
     requires { documents outcomes.items ≡ map read_place (at_each true (alone (view tree.now))) }
     ensures { Fits (read array_items (view tree.now)) array_items_doc result (counts (documents outcomes.items)) }
 {
     match tree.as_bool() {
         Some(false) => Ok(ArrayItems::False),
         Some(true) => Err(ReadFault::Alternative),
-        None => {
-            let place = only_place(outcomes)?;
-            Ok(ArrayItems::RefOrSchema(Box::new(alloc, place)?))
-        }
+        None => Ok(ArrayItems::RefOrSchema(only_place(outcomes)?)),
     }
 }
 
@@ -170,7 +163,10 @@ pub(crate) fn additional_from(
 {
     match tree.as_bool() {
         Some(free) => Ok(AdditionalProperties::FreeForm(free)),
-        None => Ok(AdditionalProperties::RefOr(only_place(outcomes)?)),
+        None => {
+            let place = only_place(outcomes)?;
+            Ok(AdditionalProperties::RefOr(Box::into_inner(place)))
+        }
     }
 }
 
@@ -191,16 +187,12 @@ pub(crate) fn combined_from(
 }
 
 /// The items of an array: the member `items`. Fails where there is none, or not of its kind.
-pub(crate) fn array_items_from(
-    alloc: Global,
-    tree: &Value,
-    outcomes: Outcomes,
-) -> Result<ArrayItems, ReadFault>
+pub(crate) fn array_items_from(tree: &Value, outcomes: Outcomes) -> Result<ArrayItems, ReadFault>
     requires { documents outcomes.items ≡ map read_place (in_one true (codes "items") (view tree.now)) }
     ensures { Fits (field (row (codes "items") required array_items) (view tree.now)) array_items_doc result (counts (documents outcomes.items)) }
 {
     match tree.get("items") {
-        Some(member) => items_from(alloc, member, outcomes),
+        Some(member) => items_from(member, outcomes),
         None => Err(ReadFault::Missing("items")),
     }
 }
@@ -279,7 +271,6 @@ pub(crate) fn property_names_from(
 
 /// The schema of a text's content: the member `contentSchema`. Fails where it is not of its kind.
 pub(crate) fn content_schema_from(
-    alloc: Global,
     tree: &Value,
     outcomes: Outcomes,
 ) -> Result<Option<Box<RefOr<Schema>>>, ReadFault>
@@ -291,8 +282,7 @@ pub(crate) fn content_schema_from(
             if member.is_null() {
                 return Ok(None);
             }
-            let value = only_place(outcomes)?;
-            Ok(Some(Box::new(alloc, value)?))
+            Ok(Some(only_place(outcomes)?))
         }
         None => Ok(None),
     }

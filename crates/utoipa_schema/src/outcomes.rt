@@ -15,8 +15,12 @@ use serde_json::Value;
 use std::alloc::{AllocError, Global};
 use utoipa_base::RefOr;
 
-/// What places were read as: none for a place that fits nothing.
-pub(crate) type Outcomes = Vec<Option<RefOr<Schema>>>;
+/// What a place was read as: none where it fits nothing. A schema is large, so it stays where it is on the heap until it is put
+/// into the one around it.
+pub(crate) type Outcome = Option<Box<RefOr<Schema>>>;
+
+/// What places were read as.
+pub(crate) type Outcomes = Vec<Outcome>;
 
 /// The outcomes in the combinations of a tree.
 #[derive(Drop)]

@@ -68,7 +68,8 @@ pub(crate) fn read_ref_or_schema(
         may_be_reference: true,
     })?;
     let outcomes = read_places(alloc, roots, readings)?;
-    only_place(outcomes)
+    let place = only_place(outcomes)?;
+    Ok(Box::into_inner(place))
 }
 
 /// A schema with `oneOf`.
@@ -139,7 +140,7 @@ fn whole_array_from(alloc: Global, tree: &Value, mut outcomes: Outcomes) -> Resu
     let in_content = take_content_schema(tree, &mut outcomes)?;
     let in_array = take_of_array(tree, &mut outcomes)?;
     let array = array_from(alloc, tree, in_array)?;
-    let content_schema = content_schema_from(alloc, tree, in_content)?;
+    let content_schema = content_schema_from(tree, in_content)?;
     Ok(array_with_content_schema(array, content_schema))
 }
 
@@ -170,7 +171,7 @@ fn whole_object_from(
     let in_content = take_content_schema(tree, &mut outcomes)?;
     let in_object = take_of_object(tree, &mut outcomes)?;
     let object = object_from(alloc, tree, in_object)?;
-    let content_schema = content_schema_from(alloc, tree, in_content)?;
+    let content_schema = content_schema_from(tree, in_content)?;
     Ok(object_with_content_schema(object, content_schema))
 }
 
@@ -185,7 +186,7 @@ pub(crate) fn read_items(
     let mut roots = Vec::new(alloc);
     push_alone(&mut roots, tree, true)?;
     let outcomes = read_places(alloc, roots, readings)?;
-    items_from(alloc, tree, outcomes)
+    items_from(tree, outcomes)
 }
 
 /// What the properties are that an object does not list: true, false, a reference, or a schema.

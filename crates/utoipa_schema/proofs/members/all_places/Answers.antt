@@ -1,4 +1,4 @@
-use Rattle.std.proofs.Common.{◌≡◌, ◌∷◌, [], Some, None, ap, ◌∙◌, sym, rules, length, arith}
+use Rattle.std.proofs.Common.{◌≡◌, ◌∷◌, ◌++◌, [], Some, None, ap, ◌∙◌, sym, rules, length, arith}
 use Rattle.utoipa_base.specs.Kinds.{schema}
 use Rattle.utoipa_base.specs.Refs.{ref_or_doc}
 use Rattle.utoipa_schema.specs.Docs.{schema_doc}
@@ -12,7 +12,8 @@ loop-outcome-init c = filled_begun (ref_or_doc schema schema_doc) _ _ (search ru
 pub loop-outcome-preserved : goal.loop-outcome-preserved
 loop-outcome-preserved c =
     let here : c.loop-outcome.outcome-iterator.rest.items ≡ Some c.in-Some-outcome.place ∷ c.next.new.self.rest.items = search rules in
-    filled_step (ref_or_doc schema schema_doc) _ _ _ _ _ c.in-Some-outcome.place c.loop-outcome.invariant (ap documents here) c.in_ok-push-in-Some-outcome.ensures.items
+    filled_step (ref_or_doc schema schema_doc) _ _ _ _ _ c.in-Some-outcome.place.value c.loop-outcome.invariant (ap documents here)
+    (c.in_ok-push-in-Some-outcome.ensures.items ∙ ap (λ v. c.loop-outcome.list.items ++ v ∷ []) c.into_inner.ensures)
 
 pub returns-in-None-outcome : goal.returns-in-None-outcome
 returns-in-None-outcome c =

@@ -1,4 +1,4 @@
-use Rattle.std.proofs.Common.{◌≡◌, None, option_map, true, false, ap, ◌∙◌, rules, arith, codes}
+use Rattle.std.proofs.Common.{◌≡◌, None, option_map, true, false, refl, ap, ◌∙◌, rules, arith, codes}
 use Rattle.serde_json.specs.Find.{get}
 use Rattle.serde_json.specs.View.{view}
 use Rattle.utoipa_base.specs.Kinds.{schema, ref_or}
@@ -18,23 +18,19 @@ returns-then-is_null c =
     let none : is_null (view c.in-Some.member.now) ≡ true = search (rules, null_as) in
     null_fits (boxed (ref_or_doc schema schema_doc)) (codes "contentSchema") (ref_or schema) (view c.args.tree.now) c.get.result c.in-Some.member _ found c.in-Some.is none
 
-pub returns-in_err-value-in-Some : goal.returns-in_err-value-in-Some
-returns-in_err-value-in-Some c =
+pub returns-in_err-only_place-in-Some : goal.returns-in_err-only_place-in-Some
+returns-in_err-only_place-in-Some c =
     let found : option_map (λ v. view v.now) c.get.result ≡ get (codes "contentSchema") (view c.args.tree.now) = search rules in
     let full : is_null (view c.in-Some.member.now) ≡ false = search (rules, null_as) in
     let same = ap last (inside alone true (codes "contentSchema") (view c.args.tree.now) c.get.result c.in-Some.member _ found c.in-Some.is c.requires) ∙ alone_read (view c.in-Some.member.now) in
-    optional_fails (ref_or_doc schema schema_doc) (boxed (ref_or_doc schema schema_doc)) (codes "contentSchema") (ref_or schema) (view c.args.tree.now) c.get.result c.in-Some.member _ _ _ found c.in-Some.is full c.from_residual.ensures.1 (fits_as_well _ _ _ _ _ _ c.in_err-value-in-Some.ensures same (omega arith))
+    optional_fails (boxed (ref_or_doc schema schema_doc)) (boxed (ref_or_doc schema schema_doc)) (codes "contentSchema") (ref_or schema) (view c.args.tree.now) c.get.result c.in-Some.member _ _ _ found c.in-Some.is full c.from_residual.ensures.1 (fits_as_well _ _ _ _ _ _ c.in_err-only_place-in-Some.ensures same (omega arith))
 
-pub returns-in_err-new-in-Some : goal.returns-in_err-new-in-Some
-returns-in_err-new-in-Some c = record { ok = search rules; err = search rules; counted = search rules }
-
-pub returns-in_ok-new-in-Some : goal.returns-in_ok-new-in-Some
-returns-in_ok-new-in-Some c =
+pub returns-in_ok-only_place-in-Some : goal.returns-in_ok-only_place-in-Some
+returns-in_ok-only_place-in-Some c =
     let found : option_map (λ v. view v.now) c.get.result ≡ get (codes "contentSchema") (view c.args.tree.now) = search rules in
     let full : is_null (view c.in-Some.member.now) ≡ false = search (rules, null_as) in
-    let held : c.in_ok-new-in-Some.field-0.value ≡ c.in_ok-value-in-Some.value = search rules in
     let same = ap last (inside alone true (codes "contentSchema") (view c.args.tree.now) c.get.result c.in-Some.member _ found c.in-Some.is c.requires) ∙ alone_read (view c.in-Some.member.now) in
-    optional_fits (ref_or_doc schema schema_doc) (boxed (ref_or_doc schema schema_doc)) (codes "contentSchema") (ref_or schema) (view c.args.tree.now) c.get.result c.in-Some.member c.in_ok-value-in-Some.value c.in_ok-new-in-Some.field-0 (counts (documents c.args.outcomes.items)) found c.in-Some.is full (ap (ref_or_doc schema schema_doc) held) (fits_as_well _ _ _ _ (counts (documents c.args.outcomes.items)) (counts (documents c.args.outcomes.items)) c.in_ok-value-in-Some.ensures same (omega arith))
+    optional_fits (boxed (ref_or_doc schema schema_doc)) (boxed (ref_or_doc schema schema_doc)) (codes "contentSchema") (ref_or schema) (view c.args.tree.now) c.get.result c.in-Some.member c.in_ok-only_place-in-Some.field-0 c.in_ok-only_place-in-Some.field-0 (counts (documents c.args.outcomes.items)) found c.in-Some.is full refl (fits_as_well _ _ _ _ (counts (documents c.args.outcomes.items)) (counts (documents c.args.outcomes.items)) c.in_ok-only_place-in-Some.ensures same (omega arith))
 
 pub returns-in-None : goal.returns-in-None
 returns-in-None c =

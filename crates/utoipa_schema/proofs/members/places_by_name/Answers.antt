@@ -1,4 +1,5 @@
 use Rattle.std.proofs.Common.{◌≡◌, ◌∷◌, Some, None, true, map, refl, ap, ◌∙◌, sym, subst, rules, length, arith, string_cmp}
+use Rattle.std.specs.BTreeMap.{insert_entry}
 use Rattle.std.specs.List.Sorted.{IsStrictlySortedBy}
 use Rattle.std.specs.Map.{keys_of}
 use Rattle.serde_json.specs.Find.{as_object}
@@ -43,7 +44,7 @@ loop-key-preserved c =
     let all : c.into_iter-key-iterator.result ≡ c.in-Some.members.now.entries = c.into_iter-key-iterator.ensures.into_iter_gives ∙ c.iter-key-items.ensures.rest in
     let ordered = subst (λ r. IsStrictlySortedBy string_cmp (keys_of r)) (sym all) c.iter-key-items.ensures.ordered in
     let here : c.loop-key.outcomes.rest.items ≡ Some c.in-Some-outcome.place ∷ c.next-in-loop-key.new.self.rest.items = search rules in
-    map_step _ _ _ _ _ _ _ (c.in-Some-2.key.now, c.in-Some-2._member.now) _ c.in_ok-name.name c.in-Some-outcome.place c.loop-key.invariant c.in-Some-2.ensures.steps ordered c.in_ok-name.ensures.cases c.in_ok-insert.ensures.entries (ap documents here)
+    map_step _ _ _ _ _ _ _ (c.in-Some-2.key.now, c.in-Some-2._member.now) _ c.in_ok-name.name c.in-Some-outcome.place.value c.loop-key.invariant c.in-Some-2.ensures.steps ordered c.in_ok-name.ensures.cases (c.in_ok-insert.ensures.entries ∙ ap (λ v. insert_entry string_cmp c.loop-key.map.entries c.in_ok-name.name v) c.into_inner.ensures) (ap documents here)
 
 pub returns : goal.returns
 returns c =
