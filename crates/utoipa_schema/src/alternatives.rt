@@ -11,8 +11,8 @@ ghost use Rattle.utoipa_base.specs.Reading.{read};
 ghost use Rattle.utoipa_base.specs.Values.{schema_count};
 ghost use Rattle.utoipa_schema.specs.Choice.{IsNoCombination, ContentSchema, content_schema_doc, HasContent};
 ghost use Rattle.utoipa_schema.specs.Docs.{one_of_doc, all_of_doc, any_of_doc, array_doc, object_doc};
-ghost use Rattle.utoipa_schema.specs.Outcomes.{documents, outcome_doc, counts, count_of, Fits, AreCombinations, AreOfArray, AreOfObject, AreInner, counts_of_combinations, counts_of_array, counts_of_object, counts_of_inner};
-ghost use Rattle.utoipa_schema.specs.Places.{read_place, in_list};
+ghost use Rattle.utoipa_schema.specs.Outcomes.{outcome_doc, list_docs, all_docs, count_of, count_of_list, Fits, AreCombinations, AreOfArray, AreOfObject, AreInner, counts_of_combinations, counts_of_array, counts_of_object, counts_of_inner};
+ghost use Rattle.utoipa_schema.specs.Places.{in_list};
 
 use crate::assemble::{
     array_with_content_schema, assemble_all_of, assemble_any_of, assemble_array, assemble_object,
@@ -23,7 +23,7 @@ use crate::members::{
     prefix_items_from, properties_from, property_names_from,
 };
 use crate::outcomes::{
-    ArrayOutcomes, CombinationOutcomes, InnerOutcomes, ObjectOutcomes, Outcome, Outcomes,
+    ArrayOutcomes, CombinationOutcomes, InnerOutcomes, ListOutcome, ObjectOutcomes, Outcome,
 };
 use crate::types::{AllOf, AnyOf, Array, Object, OneOf, Schema};
 use serde_json::Value;
@@ -46,15 +46,15 @@ pub(crate) fn if_fitting<T>(outcome: Result<T, ReadFault>) -> Result<Option<T>, 
 pub(crate) fn one_of_from(
     alloc: Global,
     tree: &Value,
-    outcomes: Outcomes,
+    outcome: ListOutcome,
 ) -> Result<OneOf, ReadFault>
-    requires { documents outcomes.items ≡ map read_place (in_list true (codes "oneOf") (view tree.now)) }
-    ensures { Fits (read (named one_of_schema) (view tree.now)) one_of_doc result (counts (documents outcomes.items)) }
+    requires { list_docs outcome ≡ all_docs (in_list true (codes "oneOf") (view tree.now)) }
+    ensures { Fits (read (named one_of_schema) (view tree.now)) one_of_doc result (count_of_list (list_docs outcome)) }
 {
     if !tree.is_object() {
         return Err(ReadFault::Kind("OneOf"));
     }
-    let items = combined_from(alloc, tree, "oneOf", outcomes)?;
+    let items = combined_from(tree, "oneOf", outcome)?;
     assemble_one_of(alloc, tree, items)
 }
 
@@ -62,15 +62,15 @@ pub(crate) fn one_of_from(
 pub(crate) fn all_of_from(
     alloc: Global,
     tree: &Value,
-    outcomes: Outcomes,
+    outcome: ListOutcome,
 ) -> Result<AllOf, ReadFault>
-    requires { documents outcomes.items ≡ map read_place (in_list true (codes "allOf") (view tree.now)) }
-    ensures { Fits (read (named all_of_schema) (view tree.now)) all_of_doc result (counts (documents outcomes.items)) }
+    requires { list_docs outcome ≡ all_docs (in_list true (codes "allOf") (view tree.now)) }
+    ensures { Fits (read (named all_of_schema) (view tree.now)) all_of_doc result (count_of_list (list_docs outcome)) }
 {
     if !tree.is_object() {
         return Err(ReadFault::Kind("AllOf"));
     }
-    let items = combined_from(alloc, tree, "allOf", outcomes)?;
+    let items = combined_from(tree, "allOf", outcome)?;
     assemble_all_of(alloc, tree, items)
 }
 
@@ -78,15 +78,15 @@ pub(crate) fn all_of_from(
 pub(crate) fn any_of_from(
     alloc: Global,
     tree: &Value,
-    outcomes: Outcomes,
+    outcome: ListOutcome,
 ) -> Result<AnyOf, ReadFault>
-    requires { documents outcomes.items ≡ map read_place (in_list true (codes "anyOf") (view tree.now)) }
-    ensures { Fits (read (named any_of_schema) (view tree.now)) any_of_doc result (counts (documents outcomes.items)) }
+    requires { list_docs outcome ≡ all_docs (in_list true (codes "anyOf") (view tree.now)) }
+    ensures { Fits (read (named any_of_schema) (view tree.now)) any_of_doc result (count_of_list (list_docs outcome)) }
 {
     if !tree.is_object() {
         return Err(ReadFault::Kind("AnyOf"));
     }
-    let items = combined_from(alloc, tree, "anyOf", outcomes)?;
+    let items = combined_from(tree, "anyOf", outcome)?;
     assemble_any_of(alloc, tree, items)
 }
 

@@ -1,16 +1,16 @@
 //! The table of places, filled from the last row to the first.
 //!
 //! The walk puts each place into the table after the one that it stands in. So where a row is the last that is left, its inner
-//! places have been read, and their outcomes are the last: they are taken off, and the row's own outcome takes their place.
+//! places have been read, and their outcomes are the last: they are taken off, and the row's own outcome is put to those of its member.
 ghost use Rattle.std.specs.Prelude.{◌≡◌, ◌≤◌, ◌<◌, ◌+◌, All, IfOk, List, [], map, length, if◌then◌else◌, nat_lt};
 ghost use Rattle.serde_json.specs.View.{view};
 ghost use Rattle.utoipa_base.specs.Kinds.{schema, ref_or};
 ghost use Rattle.utoipa_base.specs.Reading.{read};
-ghost use Rattle.utoipa_schema.specs.Outcomes.{documents, outcome_doc, counts, count_of, AreInner, counts_of_inner};
-ghost use Rattle.utoipa_schema.specs.Places.{Place, places, rows, IsMarked, read_by, read_place as place_document, total, Walked};
+ghost use Rattle.utoipa_schema.specs.Outcomes.{all_outcomes, outcome_doc, grouped, counts, count_of, AreInner, counts_of_inner};
+ghost use Rattle.utoipa_schema.specs.Places.{Place, places, rows, IsMarked, read_by, total, Walked};
 
 use crate::alternatives::{if_fitting, schema_from};
-use crate::outcomes::{InnerOutcomes, Outcome, Outcomes, take_inner};
+use crate::outcomes::{Group, InnerOutcomes, Outcome, put, take_inner};
 use crate::places::{SchemaPlace, TableRow, walk};
 use serde_json::Value;
 use std::alloc::{AllocError, Global};
@@ -21,11 +21,11 @@ pub(crate) fn read_places(
     alloc: Global,
     roots: Vec<SchemaPlace<'_>>,
     readings: &mut Readings,
-) -> Result<Outcomes, AllocError>
-    ensures read { IfOk result (λ filled. documents filled.items ≡ map place_document (places roots.entry.items)) }
+) -> Result<Vec<Group>, AllocError>
+    ensures read { IfOk result (λ filled. all_outcomes filled.items ≡ grouped (places roots.entry.items)) }
     ensures grows { readings.old ≤ readings.new }
     ensures at_most { readings.new ≤ readings.old + total (places roots.entry.items) }
-    ensures at_least { IfOk result (λ filled. readings.new < u64.MAX → readings.old + counts (documents filled.items) ≤ readings.new) }
+    ensures at_least { IfOk result (λ filled. readings.new < u64.MAX → readings.old + counts (all_outcomes filled.items) ≤ readings.new) }
 {
     let table = walk(alloc, roots)?;
     fill(alloc, table, readings)
@@ -37,20 +37,20 @@ fn fill(
     alloc: Global,
     mut table: Vec<TableRow<'_>>,
     readings: &mut Readings,
-) -> Result<Outcomes, AllocError>
+) -> Result<Vec<Group>, AllocError>
     requires walked { (roots : List Place) × Walked roots (rows table.items) [] }
     requires marked { All IsMarked table.items }
-    ensures read { IfOk result (λ filled. (roots : List Place) → Walked roots (rows table.entry.items) [] → documents filled.items ≡ map place_document roots) }
+    ensures read { IfOk result (λ filled. (roots : List Place) → Walked roots (rows table.entry.items) [] → all_outcomes filled.items ≡ grouped roots) }
     ensures grows { readings.old ≤ readings.new }
     ensures at_most { readings.new ≤ readings.old + length table.entry.items }
-    ensures at_least { IfOk result (λ filled. readings.new < u64.MAX → readings.old + counts (documents filled.items) ≤ readings.new) }
+    ensures at_least { IfOk result (λ filled. readings.new < u64.MAX → readings.old + counts (all_outcomes filled.items) ≤ readings.new) }
 {
     let mut filled = Vec::new(alloc);
     'fill: while let Some(row) = table.pop() {
         let place = row.place;
-        let inner = take_inner(alloc, place.tree, row.has_inner, &mut filled)?;
+        let inner = take_inner(alloc, place.tree, row.has_inner, &mut filled);
         let outcome = read_place(alloc, place.tree, place.may_be_reference, inner, readings)?;
-        filled.push(outcome)?;
+        put(alloc, &mut filled, place.standing, outcome)?;
     }
     Ok(filled)
 }

@@ -4,10 +4,25 @@
 //! no place at a member that holds one, since neither is a schema.
 ghost use Rattle.std.specs.Prelude.{◌≡◌, ◌≤◌, ◌++◌, [], All, IfOk, OnOk, length};
 ghost use Rattle.serde_json.specs.View.{view};
-ghost use Rattle.utoipa_schema.specs.Places.{places, rows, IsMarked, elements, entries, alone, at_each, in_list, in_map, in_one, of_combinations, of_array, of_object, inner, total, Walked};
+ghost use Rattle.utoipa_schema.specs.Places.{places, rows, IsMarked, elements, entries, alone, in_list, in_map, in_one, of_combinations, of_array, of_object, inner, total, Walked};
 
 use serde_json::Value;
 use std::alloc::{AllocError, Global};
+
+/// How a place stands in the member that holds it.
+#[derive(Drop)]
+pub(crate) enum Standing<'a> {
+    /// It is the member.
+    Alone,
+    /// The member is a list, and it is the first element.
+    FirstInList,
+    /// The member is a list, and it comes after another element.
+    NextInList,
+    /// The member is a map, and it is the first value, with its name.
+    FirstInMap(&'a String),
+    /// The member is a map, and it comes after another value.
+    NextInMap(&'a String),
+}
 
 /// A place of a schema.
 #[derive(Drop)]
@@ -16,6 +31,8 @@ pub(crate) struct SchemaPlace<'a> {
     pub(crate) tree: &'a Value,
     /// Whether it may be a reference.
     pub(crate) may_be_reference: bool,
+    /// How it stands in the member that holds it.
+    pub(crate) standing: Standing<'a>,
 }
 
 /// A row of the table of places.
@@ -33,14 +50,22 @@ pub(crate) fn push_elements<'a>(
     tree: &'a Value,
     may_be_reference: bool,
 ) -> Result<(), AllocError>
-    ensures { OnOk result (places stack.new.items ≡ places stack.old.items ++ at_each may_be_reference (elements (view tree.now))) }
+    ensures { OnOk result (places stack.new.items ≡ places stack.old.items ++ elements may_be_reference (view tree.now)) }
 {
     if let Some(list) = tree.as_array() {
-        for tree in list {
+        if let Some((first, others)) = list.split_first() {
             stack.push(SchemaPlace {
-                tree,
+                tree: first,
                 may_be_reference,
+                standing: Standing::FirstInList,
             })?;
+            for tree in others {
+                stack.push(SchemaPlace {
+                    tree,
+                    may_be_reference,
+                    standing: Standing::NextInList,
+                })?;
+            }
         }
     }
     Ok(())
@@ -52,13 +77,22 @@ pub(crate) fn push_entries<'a>(
     tree: &'a Value,
     may_be_reference: bool,
 ) -> Result<(), AllocError>
-    ensures { OnOk result (places stack.new.items ≡ places stack.old.items ++ at_each may_be_reference (entries (view tree.now))) }
+    ensures { OnOk result (places stack.new.items ≡ places stack.old.items ++ entries may_be_reference (view tree.now)) }
 {
     if let Some(map) = tree.as_object() {
-        for (_name, tree) in map.iter() {
+        let mut entries = map.iter();
+        if let Some((name, first)) = entries.next() {
+            stack.push(SchemaPlace {
+                tree: first,
+                may_be_reference,
+                standing: Standing::FirstInMap(name),
+            })?;
+        }
+        for (name, tree) in entries {
             stack.push(SchemaPlace {
                 tree,
                 may_be_reference,
+                standing: Standing::NextInMap(name),
             })?;
         }
     }
@@ -71,7 +105,7 @@ pub(crate) fn push_alone<'a>(
     tree: &'a Value,
     may_be_reference: bool,
 ) -> Result<(), AllocError>
-    ensures { OnOk result (places stack.new.items ≡ places stack.old.items ++ at_each may_be_reference (alone (view tree.now))) }
+    ensures { OnOk result (places stack.new.items ≡ places stack.old.items ++ alone may_be_reference (view tree.now)) }
 {
     if tree.is_null() || tree.is_boolean() {
         return Ok(());
@@ -79,6 +113,7 @@ pub(crate) fn push_alone<'a>(
     stack.push(SchemaPlace {
         tree,
         may_be_reference,
+        standing: Standing::Alone,
     })?;
     Ok(())
 }
