@@ -2,6 +2,7 @@ pub mod Choices
 pub mod Fewer
 pub mod Filling
 pub mod Fitting
+pub mod Groups
 pub mod MemberCounts
 pub mod SchemaCounts
 pub mod SchemaMembers

@@ -1,10 +1,14 @@
 -- What places were read as, by the member that they stand in.
-use Rattle.std.specs.Prelude.{◌≡◌, ℕ, ◌+◌, ◌≤◌, List, [], ◌∷◌, ◌++◌, true, false, map, Option, None, Some, option_map, codes, Box, Vec, BTreeMap, String, Result, IfOk, IfErr}
-use Rattle.std.specs.BTreeMap.{insert_entry}
+use Rattle.std.specs.Prelude.{◌≡◌, ℕ, ◌+◌, ◌≤◌, List, [], ◌∷◌, ◌++◌, true, false, map, Option, None, Some, option_map, codes, Box, Vec, String, string_cmp, Result, IfOk, IfErr}
+use Rattle.std.specs.BTreeMap.{BTreeMap, insert_entry}
 use Rattle.std.specs.Cmp.Lexicographic.{slice_cmp}
 use Rattle.std.specs.Ordering.{nat_cmp}
 use Rattle.std.specs.declared.alloc.Global.{Global}
-use Rattle.serde_json.specs.Data.{Data}
+use Rattle.std.specs.List.Sorted.{IsStrictlySortedBy}
+use Rattle.std.specs.Map.{keys_of}
+use Rattle.serde_json.specs.Data.{Data, null, boolean, number, string, array, object}
+use Rattle.serde_json.specs.View.{members_view}
+use Rattle.serde_json.specs.declared.value.Value.{Value}
 use Rattle.utoipa_base.specs.Docs.{Doc, own_doc, list_doc, docs_of, entries_of_list}
 use Rattle.utoipa_base.specs.Faults.{Refuses}
 use Rattle.utoipa_base.specs.Kinds.{schema}
@@ -60,6 +64,21 @@ outcomes_of (groups.Map m) = of_map (map_docs m)
 
 abbrev pub all_outcomes : List Group → List Outcomes
 all_outcomes = map outcomes_of
+
+abbrev pub one_of_outcomes : Outcomes → Option Doc
+one_of_outcomes (of_one o) = o
+one_of_outcomes (of_list ds) = None
+one_of_outcomes (of_map es) = None
+
+abbrev pub list_of_outcomes : Outcomes → Option (List Doc)
+list_of_outcomes (of_one o) = None
+list_of_outcomes (of_list ds) = ds
+list_of_outcomes (of_map es) = None
+
+abbrev pub map_of_outcomes : Outcomes → Option (List (List ℕ × Doc))
+map_of_outcomes (of_one o) = None
+map_of_outcomes (of_list ds) = None
+map_of_outcomes (of_map es) = es
 
 -- one place more
 abbrev pub add_place : Option Doc → Outcomes → Outcomes
@@ -209,6 +228,15 @@ counts_of_object o = count_of_map (map_docs o.properties) + (count_of (outcome_d
 
 abbrev pub counts_of_inner : InnerOutcomes → ℕ
 counts_of_inner o = counts_of_combinations o.combinations + (counts_of_array o.array + (counts_of_object o.object + count_of (outcome_doc o.content_schema)))
+
+-- an object has entries whose names ascend
+abbrev pub AreEntries : Data → Type 0
+AreEntries null = Unit {0}
+AreEntries (boolean b) = Unit {0}
+AreEntries (number n) = Unit {0}
+AreEntries (string s) = Unit {0}
+AreEntries (array ds) = Unit {0}
+AreEntries (object ms) = (es : List (String Global × Value)) × (ms ≡ members_view es) × IsStrictlySortedBy string_cmp (keys_of es)
 
 -- groups that are taken off: if they are those of some places, which were read last, then those of the places before are left
 abbrev pub Takes : List Group → List Group → List Place → Type 0 → Type 0

@@ -59,13 +59,13 @@ rows = map (λ r. place_of r.place)
 
 -- ---- the places in a value
 
-abbrev pub next_elements : Bool → Items → List Place
-next_elements may_be_reference no_items = []
-next_elements may_be_reference (item d ds) = place_at may_be_reference next_in_list d ∷ next_elements may_be_reference ds
+abbrev pub items_list : Items → List Data
+items_list no_items = []
+items_list (item d ds) = d ∷ items_list ds
 
 abbrev pub elements_of : Bool → Items → List Place
 elements_of may_be_reference no_items = []
-elements_of may_be_reference (item d ds) = place_at may_be_reference first_in_list d ∷ next_elements may_be_reference ds
+elements_of may_be_reference (item d ds) = place_at may_be_reference first_in_list d ∷ map (place_at may_be_reference next_in_list) (items_list ds)
 
 abbrev pub next_entries : Bool → Members → List Place
 next_entries may_be_reference no_members = []

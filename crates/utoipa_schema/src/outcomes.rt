@@ -3,10 +3,10 @@
 //! The places inside a tree are read before it, in the order of their members. Each is put to those of its member that have been read
 //! before, so that a list or a map is made while its places are read, and nothing is kept twice. The outcomes of a tree's members are
 //! then the last, and are taken off there, the last member first.
-ghost use Rattle.std.specs.Prelude.{◌≡◌, ◌≤◌, ◌+◌, ◌∷◌, [], IfOk, OnOk, Bool, false, string_bytes};
+ghost use Rattle.std.specs.Prelude.{◌≡◌, ◌≤◌, ◌+◌, ◌∷◌, [], length, IfOk, OnOk, Bool, false, string_bytes};
 ghost use Rattle.serde_json.specs.Data.{Data};
 ghost use Rattle.serde_json.specs.View.{view};
-ghost use Rattle.utoipa_schema.specs.Outcomes.{of_list, of_map, all_outcomes, outcome_doc, list_docs, map_docs, put as put_outcome, add_place, add_entry, Takes, last, all_docs, all_entries, counts, count_of, count_of_list, count_of_map, AreCombinations, AreOfArray, AreOfObject, AreInner, counts_of_combinations, counts_of_array, counts_of_object, counts_of_inner};
+ghost use Rattle.utoipa_schema.specs.Outcomes.{of_list, of_map, one_of_outcomes, list_of_outcomes, map_of_outcomes, outcomes_of, all_outcomes, with_last, AreEntries, outcome_doc, list_docs, map_docs, put as put_outcome, add_place, add_entry, Takes, last, all_docs, all_entries, counts, count_of, count_of_list, count_of_map, AreCombinations, AreOfArray, AreOfObject, AreInner, counts_of_combinations, counts_of_array, counts_of_object, counts_of_inner};
 ghost use Rattle.utoipa_schema.specs.Places.{stands_as, place_at, by_itself, read_by, elements, entries, alone, in_list, in_map, in_one, of_combinations, of_array, of_object, of_content, inner};
 
 use crate::places::Standing;
@@ -81,8 +81,65 @@ pub(crate) struct InnerOutcomes {
     pub(crate) content_schema: Outcome,
 }
 
+impl Group {
+    /// The outcome of a member that is one place.
+    fn into_place(self) -> Outcome
+        ensures { outcome_doc result ≡ one_of_outcomes (outcomes_of self) }
+    {
+        match self {
+            Group::One(outcome) => outcome,
+            Group::List(_) => None,
+            Group::Map(_) => None,
+        }
+    }
+
+    /// The outcomes of a member that is a list of places.
+    fn into_list(self) -> ListOutcome
+        ensures { list_docs result ≡ list_of_outcomes (outcomes_of self) }
+    {
+        match self {
+            Group::List(list) => list,
+            Group::One(_) => None,
+            Group::Map(_) => None,
+        }
+    }
+
+    /// The outcomes of a member that is a map of places.
+    fn into_map(self) -> MapOutcome
+        ensures { map_docs result ≡ map_of_outcomes (outcomes_of self) }
+    {
+        match self {
+            Group::Map(map) => map,
+            Group::One(_) => None,
+            Group::List(_) => None,
+        }
+    }
+
+    /// With one place more, if it is a list. Fails where memory runs out.
+    fn with_place(self, outcome: Outcome) -> Result<Group, AllocError>
+        ensures { IfOk result (λ group. outcomes_of group ≡ add_place (outcome_doc outcome) (outcomes_of self)) }
+    {
+        match self {
+            Group::List(list) => Ok(Group::List(with_element(list, outcome)?)),
+            Group::One(own) => Ok(Group::One(own)),
+            Group::Map(map) => Ok(Group::Map(map)),
+        }
+    }
+
+    /// With one place more under its name, if it is a map. Fails where memory runs out.
+    fn with_named(self, name: &String, outcome: Outcome) -> Result<Group, AllocError>
+        ensures { IfOk result (λ group. outcomes_of group ≡ add_entry (string_bytes name.now) (outcome_doc outcome) (outcomes_of self)) }
+    {
+        match self {
+            Group::Map(map) => Ok(Group::Map(with_entry(map, name, outcome)?)),
+            Group::One(own) => Ok(Group::One(own)),
+            Group::List(list) => Ok(Group::List(list)),
+        }
+    }
+}
+
 /// One place more of a list. Fails where memory runs out.
-fn with_place(list: ListOutcome, outcome: Outcome) -> Result<ListOutcome, AllocError>
+fn with_element(list: ListOutcome, outcome: Outcome) -> Result<ListOutcome, AllocError>
     ensures { IfOk result (λ o. of_list (list_docs o) ≡ add_place (outcome_doc outcome) (of_list (list_docs list))) }
 {
     let (Some(mut list), Some(place)) = (list, outcome) else {
@@ -115,25 +172,51 @@ pub(crate) fn put(
     standing: Standing<'_>,
     outcome: Outcome,
 ) -> Result<(), AllocError>
-    ensures { OnOk result (all_outcomes filled.new.items ≡ put_outcome (all_outcomes filled.old.items) (stands_as standing) (outcome_doc outcome)) }
+    ensures { OnOk result (all_outcomes filled.new.items ≡ put_outcome (all_outcomes filled.old.items) (stands_as standing.entry) (outcome_doc outcome)) }
 {
-    let group = match standing {
-        Standing::Alone => Group::One(outcome),
-        Standing::FirstInList => Group::List(with_place(Some(Vec::new(alloc)), outcome)?),
-        Standing::FirstInMap(name) => Group::Map(with_entry(Some(BTreeMap::new(alloc)), name, outcome)?),
-        Standing::NextInList => match filled.pop() {
-            Some(Group::List(list)) => Group::List(with_place(list, outcome)?),
-            Some(group) => group,
-            None => return Ok(()),
-        },
-        Standing::NextInMap(name) => match filled.pop() {
-            Some(Group::Map(map)) => Group::Map(with_entry(map, name, outcome)?),
-            Some(group) => group,
-            None => return Ok(()),
-        },
-    };
-    filled.push(group)?;
-    Ok(())
+    match standing {
+        Standing::Alone => Ok(filled.push(Group::One(outcome))?),
+        Standing::FirstInList => {
+            let group = Group::List(Some(Vec::new(alloc))).with_place(outcome)?;
+            Ok(filled.push(group)?)
+        }
+        Standing::FirstInMap(name) => {
+            let group = Group::Map(Some(BTreeMap::new(alloc))).with_named(name, outcome)?;
+            Ok(filled.push(group)?)
+        }
+        Standing::NextInList => put_element(filled, outcome),
+        Standing::NextInMap(name) => put_entry(filled, name, outcome),
+    }
+}
+
+/// Puts an element that has been read to those before it. Fails where memory runs out.
+fn put_element(filled: &mut Vec<Group>, outcome: Outcome) -> Result<(), AllocError>
+    ensures { OnOk result (all_outcomes filled.new.items ≡ with_last (add_place (outcome_doc outcome)) (all_outcomes filled.old.items)) }
+{
+    match filled.pop() {
+        Some(group) => {
+            let group = group.with_place(outcome)?;
+            Ok(filled.push(group)?)
+        }
+        None => Ok(()),
+    }
+}
+
+/// Puts a value of a map that has been read to those before it. Fails where memory runs out.
+fn put_entry(
+    filled: &mut Vec<Group>,
+    name: &String,
+    outcome: Outcome,
+) -> Result<(), AllocError>
+    ensures { OnOk result (all_outcomes filled.new.items ≡ with_last (add_entry (string_bytes name.now) (outcome_doc outcome)) (all_outcomes filled.old.items)) }
+{
+    match filled.pop() {
+        Some(group) => {
+            let group = group.with_named(name, outcome)?;
+            Ok(filled.push(group)?)
+        }
+        None => Ok(()),
+    }
 }
 
 /// Takes off the last outcome, which is that of one place.
@@ -142,8 +225,8 @@ pub(crate) fn take_last(filled: &mut Vec<Group>) -> Outcome
     ensures counted { counts (all_outcomes filled.new.items) + count_of (outcome_doc result) ≤ counts (all_outcomes filled.old.items) }
 {
     match filled.pop() {
-        Some(Group::One(outcome)) => outcome,
-        _ => None,
+        Some(group) => group.into_place(),
+        None => None,
     }
 }
 
@@ -159,17 +242,38 @@ pub(crate) fn take_alone(tree: &Value, filled: &mut Vec<Group>) -> Outcome
     }
 }
 
+/// How many places there are in a member that is a list.
+fn count_elements(tree: &Value) -> usize
+    ensures { (b : Bool) → result ≡ length (elements b (view tree.now)) }
+{
+    match tree.as_array() {
+        Some(list) => list.len(),
+        None => 0,
+    }
+}
+
+/// How many places there are in a member that is a map, whose names ascend.
+fn count_entries(tree: &Value) -> usize
+    ensures many { (b : Bool) → result ≡ length (entries b (view tree.now)) }
+    ensures ordered { AreEntries (view tree.now) }
+{
+    match tree.as_object() {
+        Some(map) => map.len(),
+        None => 0,
+    }
+}
+
 /// Takes off the outcomes of a member that is a list of places.
 pub(crate) fn take_elements(alloc: Global, tree: &Value, filled: &mut Vec<Group>) -> ListOutcome
     ensures read { (b : Bool) → Takes filled.old.items filled.new.items (elements b (view tree.now)) (list_docs result ≡ all_docs (elements b (view tree.now))) }
     ensures counted { counts (all_outcomes filled.new.items) + count_of_list (list_docs result) ≤ counts (all_outcomes filled.old.items) }
 {
-    match tree.as_array() {
-        Some(list) if !list.is_empty() => match filled.pop() {
-            Some(Group::List(list)) => list,
-            _ => None,
-        },
-        _ => Some(Vec::new(alloc)),
+    if count_elements(tree) == 0 {
+        return Some(Vec::new(alloc));
+    }
+    match filled.pop() {
+        Some(group) => group.into_list(),
+        None => None,
     }
 }
 
@@ -178,12 +282,12 @@ pub(crate) fn take_entries(alloc: Global, tree: &Value, filled: &mut Vec<Group>)
     ensures read { (b : Bool) → Takes filled.old.items filled.new.items (entries b (view tree.now)) (map_docs result ≡ all_entries (entries b (view tree.now))) }
     ensures counted { counts (all_outcomes filled.new.items) + count_of_map (map_docs result) ≤ counts (all_outcomes filled.old.items) }
 {
-    match tree.as_object() {
-        Some(map) if map.len() > 0 => match filled.pop() {
-            Some(Group::Map(map)) => map,
-            _ => None,
-        },
-        _ => Some(BTreeMap::new(alloc)),
+    if count_entries(tree) == 0 {
+        return Some(BTreeMap::new(alloc));
+    }
+    match filled.pop() {
+        Some(group) => group.into_map(),
+        None => None,
     }
 }
 

@@ -1,4 +1,4 @@
-use Rattle.std.proofs.Common.{◌≡◌, None, option_map, true, false, ap, rules, codes}
+use Rattle.std.proofs.Common.{◌≡◌, None, option_map, true, false, ap, rules, codes, ◌∙◌}
 use Rattle.serde_json.specs.Find.{get}
 use Rattle.serde_json.specs.View.{view}
 use Rattle.utoipa_base.specs.Kinds.{additional_properties as additional_kind}
@@ -6,6 +6,7 @@ use Rattle.utoipa_base.specs.Reading.{is_null}
 use Rattle.utoipa_base.specs.Views.{boxed}
 use Rattle.utoipa_base.proofs.ByRows.{null_as}
 use Rattle.utoipa_schema.specs.Docs.{schema_doc, additional_properties_doc}
+use Rattle.utoipa_schema.specs.Outcomes.{last}
 use Rattle.utoipa_schema.specs.Places.{alone}
 use Rattle.utoipa_schema.proofs.Fitting.{null_fits, absent_fits, optional_fits, optional_fails, inside}
 use Rattle.utoipa_schema.proofs.members.additional_properties_from.Goals as goal
@@ -13,7 +14,7 @@ use Rattle.utoipa_schema.proofs.members.additional_properties_from.Goals as goal
 pub additional_from-requires : goal.additional_from-requires
 additional_from-requires c =
     let found : option_map (λ v. view v.now) c.get.result ≡ get (codes "additionalProperties") (view c.args.tree.now) = search rules in
-    inside alone true (codes "additionalProperties") (view c.args.tree.now) c.get.result c.in-Some.member _ found c.in-Some.is c.requires
+    c.requires ∙ ap last (inside (alone true) (codes "additionalProperties") (view c.args.tree.now) c.get.result c.in-Some.member found c.in-Some.is)
 
 pub returns-then-is_null : goal.returns-then-is_null
 returns-then-is_null c =

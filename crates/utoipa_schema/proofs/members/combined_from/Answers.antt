@@ -1,9 +1,10 @@
-use Rattle.std.proofs.Common.{◌≡◌, None, option_map, true, rules}
+use Rattle.std.proofs.Common.{◌≡◌, None, option_map, true, rules, ap, ◌∙◌}
 use Rattle.serde_json.specs.Find.{get}
 use Rattle.serde_json.specs.View.{view}
 use Rattle.utoipa_base.specs.Kinds.{list_of, ref_or, schema, required}
 use Rattle.utoipa_base.proofs.Members.{field_absent}
 use Rattle.utoipa_schema.specs.Docs.{places_doc, schema_doc}
+use Rattle.utoipa_schema.specs.Outcomes.{all_docs}
 use Rattle.utoipa_schema.specs.Places.{elements}
 use Rattle.utoipa_schema.proofs.Fitting.{fits_refused, required_fits, inside}
 use Rattle.utoipa_schema.proofs.members.combined_from.Goals as goal
@@ -11,7 +12,7 @@ use Rattle.utoipa_schema.proofs.members.combined_from.Goals as goal
 pub places_in_list-requires : goal.places_in_list-requires
 places_in_list-requires c =
     let found : option_map (λ v. view v.now) c.get.result ≡ get c.args.name.now (view c.args.tree.now) = search rules in
-    inside elements true c.args.name.now (view c.args.tree.now) c.get.result c.in-Some.member _ found c.in-Some.is c.requires
+    c.requires ∙ ap all_docs (inside (elements true) c.args.name.now (view c.args.tree.now) c.get.result c.in-Some.member found c.in-Some.is)
 
 pub returns-in-Some : goal.returns-in-Some
 returns-in-Some c =

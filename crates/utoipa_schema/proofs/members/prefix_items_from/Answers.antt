@@ -9,6 +9,7 @@ use Rattle.utoipa_base.specs.Values.{schema_count}
 use Rattle.utoipa_base.specs.Views.{list_of_docs}
 use Rattle.utoipa_base.proofs.Places.{schema_count-list, docs_schema_count-none}
 use Rattle.utoipa_schema.specs.Docs.{schema_doc}
+use Rattle.utoipa_schema.specs.Outcomes.{all_docs}
 use Rattle.utoipa_schema.specs.Places.{elements}
 use Rattle.utoipa_schema.proofs.Fitting.{defaulted_fits, inside}
 use Rattle.utoipa_schema.proofs.members.prefix_items_from.Goals as goal
@@ -16,7 +17,7 @@ use Rattle.utoipa_schema.proofs.members.prefix_items_from.Goals as goal
 pub schemas_in_list-requires : goal.schemas_in_list-requires
 schemas_in_list-requires c =
     let found : option_map (λ v. view v.now) c.get.result ≡ get (codes "prefixItems") (view c.args.tree.now) = search rules in
-    inside elements false (codes "prefixItems") (view c.args.tree.now) c.get.result c.in-Some.member _ found c.in-Some.is c.requires
+    c.requires ∙ ap all_docs (inside (elements false) (codes "prefixItems") (view c.args.tree.now) c.get.result c.in-Some.member found c.in-Some.is)
 
 pub returns-in-Some : goal.returns-in-Some
 returns-in-Some c =

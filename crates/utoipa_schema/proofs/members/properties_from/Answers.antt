@@ -10,6 +10,7 @@ use Rattle.utoipa_base.specs.Values.{schema_count}
 use Rattle.utoipa_base.specs.Views.{map_of_docs, pairs_of}
 use Rattle.utoipa_base.proofs.Places.{schema_count-map, entries_schema_count-none}
 use Rattle.utoipa_schema.specs.Docs.{schema_doc}
+use Rattle.utoipa_schema.specs.Outcomes.{all_entries}
 use Rattle.utoipa_schema.specs.Places.{entries}
 use Rattle.utoipa_schema.proofs.Fitting.{defaulted_fits, inside}
 use Rattle.utoipa_schema.proofs.members.properties_from.Goals as goal
@@ -17,7 +18,7 @@ use Rattle.utoipa_schema.proofs.members.properties_from.Goals as goal
 pub places_by_name-requires : goal.places_by_name-requires
 places_by_name-requires c =
     let found : option_map (λ v. view v.now) c.get.result ≡ get (codes "properties") (view c.args.tree.now) = search rules in
-    inside entries true (codes "properties") (view c.args.tree.now) c.get.result c.in-Some.member _ found c.in-Some.is c.requires
+    c.requires ∙ ap all_entries (inside (entries true) (codes "properties") (view c.args.tree.now) c.get.result c.in-Some.member found c.in-Some.is)
 
 pub returns-in-Some : goal.returns-in-Some
 returns-in-Some c =

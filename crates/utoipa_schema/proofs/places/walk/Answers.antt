@@ -15,7 +15,7 @@ walk-smaller c =
     let place : Place = place_of c.in-Some.place in
     let rest = places c.pop.new.self.items in
     let before : places c.walk.stack.items ≡ rest ++ place ∷ [] = ap places c.in-Some.ensures.items ∙ map-append _ c.pop.new.self.items _ in
-    omega (arith, ap total before, total-last rest place, ap total c.in_ok-push_inner.ensures, total-append rest (inner place.1), inner_fewer place.1)
+    omega (arith, ap total before, total-last rest place, ap total c.in_ok-push_inner.ensures, total-append rest (inner place.tree), inner_fewer place.tree)
 
 pub walk-preserved : goal.walk-preserved
 walk-preserved c =
