@@ -17,16 +17,16 @@ returns-in_default c =
     let none : as_object (view c.args.tree.now) ≡ None = search rules in
     fits_refused _ _ _ _ (map_none (ref_or schema) (view c.args.tree.now) none)
 
-pub returns-in-Some : goal.returns-in-Some
-returns-in-Some c =
+pub returns-in-Some-outcome : goal.returns-in-Some-outcome
+returns-in-Some-outcome c =
     let is : Some (members_view c.in-Some._members.now.entries) ≡ as_object (view c.args.tree.now) = search rules in
     record {
-      ok = map_all (view c.args.tree.now) _ is ∙ ap (λ w. option_map map_doc (option_map entries_of_list w)) (sym c.requires ∙ ap map_docs c.in-Some-2.is);
+      ok = map_all (view c.args.tree.now) _ is ∙ ap (λ w. option_map map_doc (option_map entries_of_list w)) (sym c.requires ∙ ap map_docs c.in-Some-outcome.is);
       err = tt;
-      counted = omega (arith, ap (λ o. count_of_map (map_docs o)) c.in-Some-2.is, schema_count-map (entries_of_list (pairs_of (ref_or_doc schema schema_doc) c.in-Some-2.places.entries)));
+      counted = omega (arith, ap (λ o. count_of_map (map_docs o)) c.in-Some-outcome.is, schema_count-map (entries_of_list (pairs_of (ref_or_doc schema schema_doc) c.in-Some-outcome.places.entries)));
     }
 
-pub returns : goal.returns
-returns c =
+pub returns-in-None : goal.returns-in-None
+returns-in-None c =
     let is : Some (members_view c.in-Some._members.now.entries) ≡ as_object (view c.args.tree.now) = search rules in
     fits_refused _ _ _ _ (map_all (view c.args.tree.now) _ is ∙ ap (λ w. option_map map_doc (option_map entries_of_list w)) (sym c.requires ∙ ap map_docs c.in-None.is))

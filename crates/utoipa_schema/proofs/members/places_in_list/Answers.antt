@@ -16,16 +16,16 @@ returns-in_default c =
     let none : as_array (view c.args.tree.now) ≡ None = search rules in
     fits_refused _ _ _ _ (list_none (ref_or schema) (view c.args.tree.now) none)
 
-pub returns-in-Some : goal.returns-in-Some
-returns-in-Some c =
+pub returns-in-Some-outcome : goal.returns-in-Some-outcome
+returns-in-Some-outcome c =
     let is : Some (items_view c.in-Some._list.now.items) ≡ as_array (view c.args.tree.now) = search rules in
     record {
-      ok = list_all (view c.args.tree.now) _ is ∙ ap (λ w. option_map list_doc (option_map docs_of w)) (sym c.requires ∙ ap list_docs c.in-Some-2.is);
+      ok = list_all (view c.args.tree.now) _ is ∙ ap (λ w. option_map list_doc (option_map docs_of w)) (sym c.requires ∙ ap list_docs c.in-Some-outcome.is);
       err = tt;
-      counted = omega (arith, ap (λ o. count_of_list (list_docs o)) c.in-Some-2.is, schema_count-list (docs_of (map (ref_or_doc schema schema_doc) c.in-Some-2.places.items)));
+      counted = omega (arith, ap (λ o. count_of_list (list_docs o)) c.in-Some-outcome.is, schema_count-list (docs_of (map (ref_or_doc schema schema_doc) c.in-Some-outcome.places.items)));
     }
 
-pub returns : goal.returns
-returns c =
+pub returns-in-None : goal.returns-in-None
+returns-in-None c =
     let is : Some (items_view c.in-Some._list.now.items) ≡ as_array (view c.args.tree.now) = search rules in
     fits_refused _ _ _ _ (list_all (view c.args.tree.now) _ is ∙ ap (λ w. option_map list_doc (option_map docs_of w)) (sym c.requires ∙ ap list_docs c.in-None.is))

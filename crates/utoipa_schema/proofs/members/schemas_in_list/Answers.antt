@@ -13,13 +13,13 @@ returns-in_default c =
     let none : as_array (view c.args.tree.now) ≡ None = search rules in
     fits_refused _ _ _ _ (list_none schema (view c.args.tree.now) none)
 
-pub returns-in-Some : goal.returns-in-Some
-returns-in-Some c =
+pub returns-in-Some-outcome : goal.returns-in-Some-outcome
+returns-in-Some-outcome c =
     let is : Some (items_view c.in-Some._list.now.items) ≡ as_array (view c.args.tree.now) = search rules in
-    let same = list_own (view c.args.tree.now) _ is ∙ ap (λ w. option_map list_doc (option_map docs_of (owned w))) (sym c.requires ∙ ap list_docs c.in-Some-2.is) ∙ list_of_own-as _ in
-    fits_as_well _ _ _ _ _ _ c.all_schemas.ensures (sym same) (omega (arith, ap (λ o. count_of_list (list_docs o)) c.in-Some-2.is))
+    let same = list_own (view c.args.tree.now) _ is ∙ ap (λ w. option_map list_doc (option_map docs_of (owned w))) (sym c.requires ∙ ap list_docs c.in-Some-outcome.is) ∙ list_of_own-as _ in
+    fits_as_well _ _ _ _ _ _ c.all_schemas.ensures (sym same) (omega (arith, ap (λ o. count_of_list (list_docs o)) c.in-Some-outcome.is))
 
-pub returns : goal.returns
-returns c =
+pub returns-in-None : goal.returns-in-None
+returns-in-None c =
     let is : Some (items_view c.in-Some._list.now.items) ≡ as_array (view c.args.tree.now) = search rules in
     fits_refused _ _ _ _ (list_own (view c.args.tree.now) _ is ∙ ap (λ w. option_map list_doc (option_map docs_of (owned w))) (sym c.requires ∙ ap list_docs c.in-None.is))
