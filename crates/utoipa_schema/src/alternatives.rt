@@ -2,7 +2,7 @@
 //!
 //! An alternative that fits takes the outcomes in its members into the schema, and one that does not fit drops them. No other
 //! alternative has any of these members but `contentSchema`, which is taken only where an array or an object fits.
-ghost use Rattle.std.specs.Prelude.{◌≡◌, ◌≤◌, ◌+◌, None, Some, Ok, IfOk, IfErr, MatchOption, option_map, map, true, codes};
+ghost use Rattle.std.specs.Prelude.{◌≡◌, ◌≤◌, ◌+◌, None, Some, Ok, IfOk, IfErr, MatchOption, option_map, true, codes};
 ghost use Rattle.serde_json.specs.View.{view};
 ghost use Rattle.utoipa_base.specs.Docs.{own_doc};
 ghost use Rattle.utoipa_base.specs.Faults.{Refuses, fitting as fitting_of};

@@ -2,7 +2,7 @@
 //!
 //! The walk puts each place into the table after the one that it stands in. So where a row is the last that is left, its inner
 //! places have been read, and their outcomes are the last: they are taken off, and the row's own outcome is put to those of its member.
-ghost use Rattle.std.specs.Prelude.{◌≡◌, ◌≤◌, ◌<◌, ◌+◌, All, IfOk, List, [], map, length, if◌then◌else◌, nat_lt};
+ghost use Rattle.std.specs.Prelude.{◌≡◌, ◌≤◌, ◌<◌, ◌+◌, All, IfOk, List, [], length, if◌then◌else◌, nat_lt};
 ghost use Rattle.serde_json.specs.View.{view};
 ghost use Rattle.utoipa_base.specs.Kinds.{schema, ref_or};
 ghost use Rattle.utoipa_base.specs.Reading.{read};

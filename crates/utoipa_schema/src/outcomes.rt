@@ -7,7 +7,7 @@ ghost use Rattle.std.specs.Prelude.{◌≡◌, ◌≤◌, ◌+◌, ◌∷◌, []
 ghost use Rattle.serde_json.specs.Data.{Data};
 ghost use Rattle.serde_json.specs.View.{view};
 ghost use Rattle.utoipa_schema.specs.Outcomes.{of_list, of_map, one_of_outcomes, list_of_outcomes, map_of_outcomes, outcomes_of, all_outcomes, with_last, AreEntries, outcome_doc, list_docs, map_docs, put as put_outcome, add_place, add_entry, Takes, last, all_docs, all_entries, counts, count_of, count_of_list, count_of_map, AreCombinations, AreOfArray, AreOfObject, AreInner, counts_of_combinations, counts_of_array, counts_of_object, counts_of_inner};
-ghost use Rattle.utoipa_schema.specs.Places.{stands_as, place_at, by_itself, read_by, elements, entries, alone, in_list, in_map, in_one, of_combinations, of_array, of_object, of_content, inner};
+ghost use Rattle.utoipa_schema.specs.Places.{stands_as, place_at, by_itself, read_by, elements, entries, alone, in_list, in_map, in_one, of_combinations, of_array, of_object, inner};
 
 use crate::places::Standing;
 use crate::types::Schema;
@@ -150,11 +150,7 @@ fn with_element(list: ListOutcome, outcome: Outcome) -> Result<ListOutcome, Allo
 }
 
 /// One place more of a map. Fails where memory runs out.
-fn with_entry(
-    map: MapOutcome,
-    name: &String,
-    outcome: Outcome,
-) -> Result<MapOutcome, AllocError>
+fn with_entry(map: MapOutcome, name: &String, outcome: Outcome) -> Result<MapOutcome, AllocError>
     ensures { IfOk result (λ o. of_map (map_docs o) ≡ add_entry (string_bytes name.now) (outcome_doc outcome) (of_map (map_docs map))) }
 {
     let (Some(mut map), Some(place)) = (map, outcome) else {
@@ -203,11 +199,7 @@ fn put_element(filled: &mut Vec<Group>, outcome: Outcome) -> Result<(), AllocErr
 }
 
 /// Puts a value of a map that has been read to those before it. Fails where memory runs out.
-fn put_entry(
-    filled: &mut Vec<Group>,
-    name: &String,
-    outcome: Outcome,
-) -> Result<(), AllocError>
+fn put_entry(filled: &mut Vec<Group>, name: &String, outcome: Outcome) -> Result<(), AllocError>
     ensures { OnOk result (all_outcomes filled.new.items ≡ with_last (add_entry (string_bytes name.now) (outcome_doc outcome)) (all_outcomes filled.old.items)) }
 {
     match filled.pop() {
@@ -319,12 +311,7 @@ pub(crate) fn take_list(
 }
 
 /// Takes off the outcomes of a member, by its name, that is a map of places.
-fn take_map(
-    alloc: Global,
-    tree: &Value,
-    name: &'static str,
-    filled: &mut Vec<Group>,
-) -> MapOutcome
+fn take_map(alloc: Global, tree: &Value, name: &'static str, filled: &mut Vec<Group>) -> MapOutcome
     ensures read { (b : Bool) → Takes filled.old.items filled.new.items (in_map b name.now (view tree.now)) (map_docs result ≡ all_entries (in_map b name.now (view tree.now))) }
     ensures counted { counts (all_outcomes filled.new.items) + count_of_map (map_docs result) ≤ counts (all_outcomes filled.old.items) }
 {

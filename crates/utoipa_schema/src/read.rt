@@ -29,8 +29,8 @@ use crate::outcomes::{
     take_of_object, take_one,
 };
 use crate::places::{
-    SchemaPlace, Standing, push_alone, push_elements, push_entries, push_list, push_of_array, push_of_object,
-    push_one,
+    SchemaPlace, Standing, push_alone, push_elements, push_entries, push_list, push_of_array,
+    push_of_object, push_one,
 };
 use crate::types::{AdditionalProperties, AllOf, AnyOf, Array, ArrayItems, Object, OneOf, Schema};
 use serde_json::Value;

@@ -11,21 +11,21 @@ fill-init c =
     let none : c.new-filled.result.items ≡ [] = search rules in
     (filling_begun (rows c.args.table.items) _ _ c.requires.walked (ap all_outcomes none), c.requires.marked)
 
-pub take_inner-requires : goal.take_inner-requires
-take_inner-requires c = (All-pop IsMarked _ c.pop.new.self.items (Some c.in-Some.row) c.in-Some.ensures.items c.fill.invariant.1).1
+pub take_inner-inner-requires : goal.take_inner-inner-requires
+take_inner-inner-requires c = (All-pop IsMarked _ c.pop.new.self.items (Some c.in-Some.row) c.in-Some.ensures.items c.fill.invariant.1).1
 
 pub read_place-requires : goal.read_place-requires
 read_place-requires c =
     let place : Place = place_of c.in-Some.row.place in
     let row : rows c.fill.table.items ≡ rows c.pop.new.self.items ++ place ∷ [] = ap rows c.in-Some.ensures.items ∙ map-append _ c.pop.new.self.items _ in
     let back = filling_row _ _ (rows c.pop.new.self.items) place _ _ _ c.fill.invariant.0 row in
-    (c.take_inner.ensures.read back.0 back.1).0
+    (c.take_inner-inner.ensures.read back.0 back.1).0
 
 pub fill-preserved : goal.fill-preserved
 fill-preserved c =
     let place : Place = place_of c.in-Some.row.place in
     let row : rows c.fill.table.items ≡ rows c.pop.new.self.items ++ place ∷ [] = ap rows c.in-Some.ensures.items ∙ map-append _ c.pop.new.self.items _ in (
-      filling_step _ _ (rows c.pop.new.self.items) place _ (all_outcomes c.take_inner.new.filled.items) _ _ _ _ c.take_inner.result (outcome_doc c.in_ok-outcome.outcome) c.fill.invariant.0 row c.take_inner.ensures.read c.take_inner.ensures.counted
+      filling_step _ _ (rows c.pop.new.self.items) place _ (all_outcomes c.take_inner-inner.new.filled.items) _ _ _ _ c.take_inner-inner.result (outcome_doc c.in_ok-outcome.outcome) c.fill.invariant.0 row c.take_inner-inner.ensures.read c.take_inner-inner.ensures.counted
           c.in_ok-outcome.ensures.read c.in_ok-outcome.ensures.ticked c.in_ok-outcome.ensures.counted c.in_ok-put.ensures,
       (All-pop IsMarked _ c.pop.new.self.items (Some c.in-Some.row) c.in-Some.ensures.items c.fill.invariant.1).0,
     )

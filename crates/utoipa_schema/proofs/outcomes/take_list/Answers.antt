@@ -4,7 +4,7 @@ use Rattle.serde_json.specs.View.{view}
 use Rattle.utoipa_base.specs.Kinds.{schema}
 use Rattle.utoipa_base.specs.Refs.{ref_or_doc}
 use Rattle.utoipa_schema.specs.Docs.{schema_doc}
-use Rattle.utoipa_schema.specs.Outcomes.{list_docs, all_docs}
+use Rattle.utoipa_schema.specs.Outcomes.{all_docs}
 use Rattle.utoipa_schema.specs.Places.{elements, part}
 use Rattle.utoipa_schema.proofs.Fitting.{inside}
 use Rattle.utoipa_schema.proofs.Taken.{no_list_count, nothing_taken, taken_as}

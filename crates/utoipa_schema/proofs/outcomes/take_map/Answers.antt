@@ -5,7 +5,7 @@ use Rattle.utoipa_base.specs.Kinds.{schema}
 use Rattle.utoipa_base.specs.Refs.{ref_or_doc}
 use Rattle.utoipa_base.specs.Views.{pairs_of}
 use Rattle.utoipa_schema.specs.Docs.{schema_doc}
-use Rattle.utoipa_schema.specs.Outcomes.{map_docs, all_entries}
+use Rattle.utoipa_schema.specs.Outcomes.{all_entries}
 use Rattle.utoipa_schema.specs.Places.{entries, part}
 use Rattle.utoipa_schema.proofs.Fitting.{inside}
 use Rattle.utoipa_schema.proofs.Taken.{no_map_count, nothing_taken, taken_as}

@@ -1,7 +1,7 @@
-use Rattle.std.proofs.Common.{◌≡◌, None, [], option_map, ap, ◌∙◌, sym, rules}
+use Rattle.std.proofs.Common.{◌≡◌, None, option_map, ap, ◌∙◌, sym, rules}
 use Rattle.serde_json.specs.Find.{get}
 use Rattle.serde_json.specs.View.{view}
-use Rattle.utoipa_schema.specs.Outcomes.{outcome_doc, last}
+use Rattle.utoipa_schema.specs.Outcomes.{last}
 use Rattle.utoipa_schema.specs.Places.{alone, part}
 use Rattle.utoipa_schema.proofs.Fitting.{inside}
 use Rattle.utoipa_schema.proofs.Taken.{nothing_taken, taken_as}

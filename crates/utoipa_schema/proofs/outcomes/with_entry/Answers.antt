@@ -1,4 +1,4 @@
-use Rattle.std.proofs.Common.{◌≡◌, Some, ap, ◌∙◌, sym, string_bytes, nat_cmp}
+use Rattle.std.proofs.Common.{Some, ap, ◌∙◌, sym, string_bytes, nat_cmp}
 use Rattle.std.specs.BTreeMap.{insert_entry}
 use Rattle.std.specs.Cmp.Lexicographic.{slice_cmp}
 use Rattle.utoipa_base.specs.Kinds.{schema}

@@ -19,10 +19,10 @@ pub one_of_from-requires : goal.one_of_from-requires
 one_of_from-requires c =
     let none : c.new-roots.result.items ≡ [] = search rules in
     let roots : places c.push_list.new.stack.items ≡ in_list true (codes "oneOf") (view c.args.tree.now) = c.in_ok-push_list.ensures ∙ ap (λ xs. places xs ++ in_list true (codes "oneOf") (view c.args.tree.now)) none in
-    (c.take_list.ensures.read true [] (c.in_ok-filled.ensures.read ∙ ap grouped roots)).0
+    (c.take_list-outcome.ensures.read true [] (c.in_ok-filled.ensures.read ∙ ap grouped roots)).0
 
 pub returns : goal.returns
 returns c =
     let none : c.new-roots.result.items ≡ [] = search rules in
     let roots : places c.push_list.new.stack.items ≡ in_list true (codes "oneOf") (view c.args.tree.now) = c.in_ok-push_list.ensures ∙ ap (λ xs. places xs ++ in_list true (codes "oneOf") (view c.args.tree.now)) none in
-    reads_from _ c.one_of_from.result _ _ _ _ _ _ c.one_of_from.ensures c.read_places.ensures.grows c.read_places.ensures.at_most (omega (arith, ap total roots, list_fewer true (codes "oneOf") (view c.args.tree.now))) (λ below. omega (arith, c.in_ok-filled.ensures.at_least below, c.take_list.ensures.counted))
+    reads_from _ c.one_of_from.result _ _ _ _ _ _ c.one_of_from.ensures c.read_places.ensures.grows c.read_places.ensures.at_most (omega (arith, ap total roots, list_fewer true (codes "oneOf") (view c.args.tree.now))) (λ below. omega (arith, c.in_ok-filled.ensures.at_least below, c.take_list-outcome.ensures.counted))

@@ -4,7 +4,7 @@ use Rattle.serde_json.specs.View.{view}
 use Rattle.utoipa_base.specs.Kinds.{schema}
 use Rattle.utoipa_base.specs.Reading.{read}
 use Rattle.utoipa_schema.specs.Docs.{schema_doc}
-use Rattle.utoipa_schema.specs.Outcomes.{own_part, grouped}
+use Rattle.utoipa_schema.specs.Outcomes.{outcome_doc, count_of, own_part, grouped}
 use Rattle.utoipa_schema.specs.Places.{Place, place_at, by_itself, places, total}
 use Rattle.utoipa_schema.proofs.Fitting.{reads_from, fits_as_well, own_back}
 use Rattle.utoipa_schema.proofs.Walks.{total-one}
@@ -26,5 +26,5 @@ returns c =
     let none : c.new-roots.result.items ≡ [] = search rules in
     let roots : places c.push.new.self.items ≡ place ∷ [] = ap places c.in_ok-push.ensures.items ∙ map-append _ c.new-roots.result.items _ ∙ ap (λ xs. places xs ++ place ∷ []) none in
     let done = c.take_last.ensures.read false (view c.args.tree.now) [] (c.in_ok-filled.ensures.read ∙ ap grouped roots) in
-    reads_from schema_doc c.only_schema.result _ _ _ _ _ _ (fits_as_well _ _ _ _ _ _ c.only_schema.ensures (ap own_part done.0 ∙ own_back (read schema (view c.args.tree.now))) (omega arith)) c.read_places.ensures.grows c.read_places.ensures.at_most
+    reads_from schema_doc c.only_schema.result _ _ _ _ _ _ (fits_as_well _ _ _ _ (count_of (outcome_doc c.take_last.result)) (count_of (outcome_doc c.take_last.result)) c.only_schema.ensures (ap own_part done.0 ∙ own_back (read schema (view c.args.tree.now))) (omega arith)) c.read_places.ensures.grows c.read_places.ensures.at_most
     (omega (arith, ap total roots, total-one place)) (λ below. omega (arith, c.in_ok-filled.ensures.at_least below, c.take_last.ensures.counted))
