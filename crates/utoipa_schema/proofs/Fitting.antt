@@ -1,55 +1,35 @@
 -- What readers come to that are given the outcomes of the places inside.
-use Rattle.std.proofs.Common.{◌≡◌, ◌∙◌, ◌≤◌, ◌<◌, ◌+◌, ℕ, List, [], ◌∷◌, ◌++◌, length, map, true, false, Bool, Option, Some, None, option_map, String, Global, BTreeMap, Vec, Bor, refl, sym, ap, subst, arith, append_assoc, Result, Ok, Err, IfOk, IfErr, string_bytes, string_cmp}
+use Rattle.std.proofs.Common.{◌≡◌, ◌∙◌, ◌≤◌, ◌<◌, ◌+◌, ℕ, List, [], ◌∷◌, ◌++◌, length, map, true, false, Option, Some, None, option_map, Global, Vec, Bor, refl, sym, ap, subst, arith, Result, Ok, Err, IfOk, IfErr, string_bytes}
 use Rattle.std.proofs.lemmas.List.{map-append}
-use Rattle.std.specs.BTreeMap.{insert_entry}
-use Rattle.std.specs.List.Sorted.{IsStrictlySortedBy}
-use Rattle.std.specs.Map.{keys_of}
 use Rattle.std.specs.Result.{IsErrAnd}
-use Rattle.serde_json.specs.Data.{Data, null, boolean, number, string, array, object, Items, no_items, item, member}
+use Rattle.serde_json.specs.Data.{Data, null, boolean, number, string, array, object, Items, no_items, item}
 use Rattle.serde_json.specs.Find.{get, as_array, as_object}
 use Rattle.serde_json.specs.View.{view, members_view}
 use Rattle.serde_json.specs.declared.value.Value.{Value}
 use Rattle.serde_json.proofs.Views.{Entry}
-use Rattle.utoipa_base.specs.Docs.{Doc, own_doc, some_doc, list_doc, docs_of, entries_of_list}
+use Rattle.utoipa_base.specs.Docs.{Doc, own_doc, ref_doc, some_doc, list_doc, map_doc, docs_of, entries_of_list}
 use Rattle.utoipa_base.specs.Faults.{Refuses, fitting}
 use Rattle.utoipa_base.specs.Fields.{field}
 use Rattle.utoipa_base.specs.Kinds.{Kind, schema, ref_or, list_of, map_of, required, optional, defaulted}
-use Rattle.utoipa_base.specs.Reading.{read, reader, item_readers, is_null, both}
+use Rattle.utoipa_base.specs.Reading.{read, reader, item_readers, is_null, both, both_entries}
 use Rattle.utoipa_base.specs.Reads.{Reads}
-use Rattle.utoipa_base.specs.Refs.{ref_or_doc}
 use Rattle.utoipa_base.specs.Tables.{row}
-use Rattle.utoipa_base.specs.Values.{schema_count, docs_schema_count, entries_schema_count}
-use Rattle.utoipa_base.specs.Views.{option_of, list_of_docs, map_of_docs, pairs_of}
+use Rattle.utoipa_base.specs.Values.{schema_count, docs_schema_count}
+use Rattle.utoipa_base.specs.Views.{option_of, list_of_docs}
 use Rattle.utoipa_base.specs.declared.fault.ReadFault.{ReadFault}
 use Rattle.utoipa_base.specs.declared.fault.ReadFault.TheVariants.{Memory, Fraction, Missing, Kind as no_kind, Word, Alternative, Text}
-use Rattle.utoipa_base.specs.declared.refs.RefOr.{RefOr}
-use Rattle.utoipa_base.proofs.ByKind.{items_read, prepend, prepend-none, prepend-some, prepend-append}
+use Rattle.utoipa_base.proofs.ByKind.{items_read}
 use Rattle.utoipa_base.proofs.ByRows.{passes_on}
-use Rattle.utoipa_base.proofs.Maps.{texts, entries_read, prepend_entries, insert_last, entries_read-step, entries_read-stop, entries_read-end, map_by_entries}
+use Rattle.utoipa_base.proofs.Maps.{entries_read, entries_read-nil, entries_read-cons, map_by_entries}
 use Rattle.utoipa_base.proofs.Members.{member_at, field_required, field_defaulted, field_optional, field_null, field_absent}
-use Rattle.utoipa_base.proofs.Places.{schema_count-none, schema_count-some, schema_count-list, schema_count-map, docs_schema_count-none, entries_schema_count-none, own_places}
-use Rattle.utoipa_base.proofs.Values.{docs_schema_count-last, entries_schema_count-last}
+use Rattle.utoipa_base.proofs.Places.{schema_count-none, schema_count-some, schema_count-list, docs_schema_count-none, own_places}
+use Rattle.utoipa_base.proofs.Values.{docs_schema_count-last}
 use Rattle.utoipa_schema.specs.Docs.{schema_doc}
-use Rattle.utoipa_schema.specs.Outcomes.{count_of, counts, last, own_doc_of, own_part, all_docs, all_of_list, Fits}
-use Rattle.utoipa_schema.specs.Places.{read_place, items_list, members_list, elements, at_each, alone, part}
+use Rattle.utoipa_schema.specs.Outcomes.{count_of, last, own_doc_of, own_part, all_own, list_of_own, and_doc, all_docs, and_entry, all_entries, Fits}
+use Rattle.utoipa_schema.specs.Places.{place_at, next_in_list, items_list, elements_of, next_entries, entries_of, elements, entries, alone}
 use Rattle.utoipa_schema.specs.declared.types.Schema.{Schema}
-
--- ---- counts
-
-pub counts-none : counts [] ≡ 0
-unfolding counts
-counts-none = refl
-
-pub counts-cons : (o : Option Doc) (os : List (Option Doc)) → counts (o ∷ os) ≡ count_of o + counts os
-unfolding counts
-counts-cons o os = refl
-
-pub counts-append : (xs ys : List (Option Doc)) → counts (xs ++ ys) ≡ counts xs + counts ys
-counts-append [] ys = omega (arith, counts-none)
-counts-append (x ∷ xs) ys = omega (arith, counts-cons x (xs ++ ys), counts-cons x xs, counts-append xs ys)
-
-pub counts-last : (xs : List (Option Doc)) (o : Option Doc) → counts (xs ++ o ∷ []) ≡ counts xs + count_of o
-counts-last xs o = omega (arith, counts-append xs (o ∷ []), counts-cons o [], counts-none)
+use Rattle.utoipa_schema.proofs.Groups.{appended, appended-nil, appended-start, and_doc-appended}
+use Rattle.utoipa_schema.proofs.Walks.{entries-object}
 
 -- ---- refusals
 
@@ -158,22 +138,8 @@ table_fits_as f g v (Err x) o p n one fits refusal counts = record { ok = tt; er
 
 -- ---- one place
 
-pub last-snoc : (os : List (Option Doc)) (o : Option Doc) → last (os ++ o ∷ []) ≡ o
-last-snoc [] o = refl
-last-snoc (p ∷ []) o = refl
-last-snoc (p ∷ q ∷ os) o = last-snoc (q ∷ os) o
-
--- the last one, taken off
-pub only_one : (os rest : List (Option Doc)) (o : Option Doc) → os ≡ rest ++ o ∷ [] → (last os ≡ o) × (count_of o ≤ counts os)
-only_one os rest o is = (ap last is ∙ last-snoc rest o, omega (arith, ap counts is, counts-last rest o))
-
--- the outcomes in a member that was found
-pub inside : (f : Data → List Data) (b : Bool) (name : List ℕ) (d : Data) (o : Option (Bor Value)) (v : Bor Value) (os : List (Option Doc)) → option_map (λ w. view w.now) o ≡ get name d → o ≡ Some v
-    → os ≡ map read_place (at_each b (part f (get name d))) → os ≡ map read_place (at_each b (f (view v.now)))
-inside f b name d o v os found is are = are ∙ ap (λ q. map read_place (at_each b (part f q))) (member_at name d o v found is)
-
 -- what is no place reads as nothing
-pub alone_read : (d : Data) → last (map read_place (at_each true (alone d))) ≡ read (ref_or schema) d
+pub alone_read : (d : Data) → last (alone true d) ≡ read (ref_or schema) d
 unfolding reader
 alone_read null = refl
 alone_read (boolean b) = refl
@@ -186,7 +152,7 @@ pub own_back : (o : Option Doc) → own_part (option_map own_doc o) ≡ o
 own_back None = refl
 own_back (Some d) = refl
 
-pub alone_own : (d : Data) → own_part (last (map read_place (at_each false (alone d)))) ≡ read schema d
+pub alone_own : (d : Data) → own_part (last (alone false d)) ≡ read schema d
 unfolding reader
 alone_own null = refl
 alone_own (boolean b) = refl
@@ -203,149 +169,124 @@ pub count_own : (o : Option Doc) → count_of (own_part o) ≤ count_of o
 count_own None = omega arith
 count_own (Some d) = count_own_of d
 
-pub counts_own : (os : List (Option Doc)) → counts (map own_part os) ≤ counts os
-unfolding counts
-counts_own [] = omega arith
-counts_own (o ∷ os) = omega (arith, count_own o, counts_own os)
+-- ---- a list
 
--- ---- a list that is filled outcome by outcome
+both_and : (o : Option Doc) (w : Option (List Doc)) → both o (option_map docs_of w) ≡ option_map docs_of (and_doc o w)
+both_and None w = refl
+both_and (Some d) None = refl
+both_and (Some d) (Some ds) = refl
 
--- the outcomes before `rest` have come to `ys`
-pub record ListFilled {T : Type 0} (f : T → Doc) (all rest : List (Option Doc)) (ys : List T) : Type 0 where
-  pub fits : all_docs all ≡ prepend (map f ys) (all_docs rest)
-  pub counted : docs_schema_count (docs_of (map f ys)) + counts rest ≤ counts all
-
-pub filled_begun : {T : Type 0} (f : T → Doc) (all : List (Option Doc)) (ys : List T) → ys ≡ [] → ListFilled f all all ys
-filled_begun f all ys none =
-    let counted : docs_schema_count (docs_of (map f ys)) ≡ 0 = ap (λ zs. docs_schema_count (docs_of (map f zs))) none ∙ docs_schema_count-none in
-    record { fits = ap (λ zs. prepend (map f zs) (all_docs all)) (sym none); counted = omega (arith, counted) }
-
-pub filled_step : {T : Type 0} (f : T → Doc) (all rest more : List (Option Doc)) (ys zs : List T) (v : T) → ListFilled f all rest ys → rest ≡ Some (f v) ∷ more → zs ≡ ys ++ v ∷ [] → ListFilled f all more zs
-filled_step f all rest more ys zs v so_far here put =
-    let mapped : map f zs ≡ map f ys ++ f v ∷ [] = ap (map f) put ∙ map-append f ys (v ∷ []) in
-    let counted : docs_schema_count (docs_of (map f zs)) ≡ docs_schema_count (docs_of (map f ys)) + schema_count (f v) = ap (λ es. docs_schema_count (docs_of es)) mapped ∙ docs_schema_count-last (map f ys) (f v) in
-    let left : counts rest ≡ schema_count (f v) + counts more = ap counts here ∙ counts-cons (Some (f v)) more in
-    record {
-      fits = so_far.fits ∙ ap (λ r. prepend (map f ys) (all_docs r)) here ∙ sym (prepend-append (map f ys) (f v) (all_docs more)) ∙ ap (λ es. prepend es (all_docs more)) (sym mapped);
-      counted = omega (arith, so_far.counted, counted, left);
-    }
-
-pub filled_stop : {T : Type 0} (f : T → Doc) (all rest more : List (Option Doc)) (ys : List T) → ListFilled f all rest ys → rest ≡ None ∷ more → all_of_list all ≡ None
-filled_stop f all rest more ys so_far here = ap (option_map list_doc) (so_far.fits ∙ ap (λ r. prepend (map f ys) (all_docs r)) here ∙ prepend-none (map f ys))
-
-pub filled_end : {T : Type 0} (f : T → Doc) (all rest : List (Option Doc)) (v : Vec T Global) (n : ℕ) → ListFilled f all rest v.items → rest ≡ [] → counts all ≤ n → Fits {A = Vec T Global} (all_of_list all) (list_of_docs f) (Ok v) n
-filled_end f all rest v n so_far here within =
-    record {
-      ok = ap (option_map list_doc) (so_far.fits ∙ ap (λ r. prepend (map f v.items) (all_docs r)) here ∙ prepend-some (map f v.items));
-      err = tt;
-      counted = omega (arith, so_far.counted, schema_count-list (docs_of (map f v.items)), within);
-    }
-
--- the elements of a list, read as places
-items_all : (ds : Items) → items_read (ref_or schema) ds ≡ all_docs (map read_place (at_each true (items_list ds)))
+items_all : (ds : Items) → items_read (ref_or schema) ds ≡ option_map docs_of (all_docs (map (place_at true next_in_list) (items_list ds)))
 unfolding item_readers
 items_all no_items = refl
-items_all (item d ds) = ap (both (read (ref_or schema) d)) (items_all ds)
+items_all (item d ds) = ap (both (read (ref_or schema) d)) (items_all ds) ∙ both_and (read (ref_or schema) d) (all_docs (map (place_at true next_in_list) (items_list ds)))
 
-items_own : (ds : Items) → items_read schema ds ≡ all_docs (map own_part (map read_place (at_each false (items_list ds))))
+elements_all : (ds : Items) → items_read (ref_or schema) ds ≡ option_map docs_of (all_docs (elements_of true ds))
 unfolding item_readers
-items_own no_items = refl
-items_own (item d ds) = ap (both (read schema d)) (items_own ds) ∙ ap (λ o. both o (all_docs (map own_part (map read_place (at_each false (items_list ds)))))) (sym (own_back (read schema d)))
+elements_all no_items = refl
+elements_all (item d ds) = ap (both (read (ref_or schema) d)) (items_all ds) ∙ both_and (read (ref_or schema) d) (all_docs (map (place_at true next_in_list) (items_list ds)))
 
-pub list_all : (d : Data) (ds : Items) → Some ds ≡ as_array d → read (list_of (ref_or schema)) d ≡ all_of_list (map read_place (at_each true (elements d)))
+-- the elements of a list, read as places
+pub list_all : (d : Data) (ds : Items) → Some ds ≡ as_array d → read (list_of (ref_or schema)) d ≡ option_map list_doc (option_map docs_of (all_docs (elements true d)))
 unfolding reader
 list_all null ds e = cc
 list_all (boolean b) ds e = cc
 list_all (number n) ds e = cc
 list_all (string s) ds e = cc
-list_all (array es) ds e = ap (option_map list_doc) (items_all es)
+list_all (array es) ds e = ap (option_map list_doc) (elements_all es)
 list_all (object ms) ds e = cc
 
-pub list_own : (d : Data) (ds : Items) → Some ds ≡ as_array d → read (list_of schema) d ≡ all_of_list (map own_part (map read_place (at_each false (elements d))))
+-- the schemas that places hold, if each holds one
+abbrev pub owned : Option (List Doc) → Option (List Doc)
+owned None = None
+owned (Some ds) = all_own ds
+
+both_owned : (o : Option Doc) (w : Option (List Doc)) → both o (option_map docs_of (owned w)) ≡ option_map docs_of (owned (and_doc (option_map own_doc o) w))
+both_owned None w = refl
+both_owned (Some d) None = refl
+both_owned (Some d) (Some ds) = both_and (Some d) (all_own ds)
+
+items_own : (ds : Items) → items_read schema ds ≡ option_map docs_of (owned (all_docs (map (place_at false next_in_list) (items_list ds))))
+unfolding item_readers
+items_own no_items = refl
+items_own (item d ds) = ap (both (read schema d)) (items_own ds) ∙ both_owned (read schema d) (all_docs (map (place_at false next_in_list) (items_list ds)))
+
+elements_own : (ds : Items) → items_read schema ds ≡ option_map docs_of (owned (all_docs (elements_of false ds)))
+unfolding item_readers
+elements_own no_items = refl
+elements_own (item d ds) = ap (both (read schema d)) (items_own ds) ∙ both_owned (read schema d) (all_docs (map (place_at false next_in_list) (items_list ds)))
+
+-- the elements of a list, read as schemas
+pub list_own : (d : Data) (ds : Items) → Some ds ≡ as_array d → read (list_of schema) d ≡ option_map list_doc (option_map docs_of (owned (all_docs (elements false d))))
 unfolding reader
 list_own null ds e = cc
 list_own (boolean b) ds e = cc
 list_own (number n) ds e = cc
 list_own (string s) ds e = cc
-list_own (array es) ds e = ap (option_map list_doc) (items_own es)
+list_own (array es) ds e = ap (option_map list_doc) (elements_own es)
 list_own (object ms) ds e = cc
 
--- ---- a map that is filled outcome by outcome
+list_of_docs_as : (w : Option (List Doc)) → option_map list_doc (option_map docs_of w) ≡ option_map (λ l. list_doc (docs_of l)) w
+list_of_docs_as None = refl
+list_of_docs_as (Some ds) = refl
 
-abbrev pub place_doc : RefOr Schema → Doc
-place_doc = ref_or_doc schema schema_doc
+pub list_of_own-as : (ds : List Doc) → option_map list_doc (option_map docs_of (all_own ds)) ≡ list_of_own ds
+list_of_own-as ds = list_of_docs_as (all_own ds)
 
-abbrev pub entries_places : List Entry → List (Option Doc)
-entries_places es = map read_place (at_each true (members_list (members_view es)))
+docs_count-cons : (d : Doc) (ds : List Doc) → docs_schema_count (docs_of (d ∷ ds)) ≡ schema_count d + docs_schema_count (docs_of ds)
+unfolding docs_schema_count
+docs_count-cons d ds = refl
 
--- the entries before `left` have come to `es`
-pub record MapFilled (all left : List Entry) (outcomes rest : List (Option Doc)) (es : List (String Global × RefOr Schema)) : Type 0 where
-  pub done : List Entry
-  pub split : all ≡ done ++ left
-  pub names : texts es ≡ texts done
-  pub read : entries_read (ref_or schema) all ≡ prepend_entries (pairs_of place_doc es) (entries_read (ref_or schema) left)
-  pub outcomes_left : rest ≡ entries_places left
-  pub counted : entries_schema_count (entries_of_list (pairs_of place_doc es)) + counts rest ≤ counts outcomes
+-- the places before `rest` have come to `ys`
+pub record OwnFilled (all rest : List Doc) (ys : List Schema) : Type 0 where
+  pub fits : all_own all ≡ appended (Some (map schema_doc ys)) (all_own rest)
+  pub counted : docs_schema_count (docs_of (map schema_doc ys)) + docs_schema_count (docs_of rest) ≤ docs_schema_count (docs_of all)
 
-pub map_begun : (all : List Entry) (outcomes : List (Option Doc)) (es : List (String Global × RefOr Schema)) → es ≡ [] → outcomes ≡ entries_places all → MapFilled all all outcomes outcomes es
-map_begun all outcomes es none are =
-    let counted : entries_schema_count (entries_of_list (pairs_of place_doc es)) ≡ 0 = ap (λ r. entries_schema_count (entries_of_list (pairs_of place_doc r))) none ∙ entries_schema_count-none in
+pub own_begun : (all : List Doc) (ys : List Schema) → ys ≡ [] → OwnFilled all all ys
+own_begun all ys none =
+    let counted : docs_schema_count (docs_of (map schema_doc ys)) ≡ 0 = ap (λ zs. docs_schema_count (docs_of (map schema_doc zs))) none ∙ docs_schema_count-none in
+    record { fits = sym (ap (λ zs. appended (Some (map schema_doc zs)) (all_own all)) none ∙ appended-start (all_own all)); counted = omega (arith, counted) }
+
+pub own_step : (all rest more : List Doc) (ys zs : List Schema) (s : Schema) → OwnFilled all rest ys → rest ≡ own_doc (schema_doc s) ∷ more → zs ≡ ys ++ s ∷ [] → OwnFilled all more zs
+own_step all rest more ys zs s so_far here put =
+    let mapped : map schema_doc zs ≡ map schema_doc ys ++ schema_doc s ∷ [] = ap (map schema_doc) put ∙ map-append schema_doc ys (s ∷ []) in
+    let counted : docs_schema_count (docs_of (map schema_doc zs)) ≡ docs_schema_count (docs_of (map schema_doc ys)) + schema_count (schema_doc s) = ap (λ es. docs_schema_count (docs_of es)) mapped ∙ docs_schema_count-last (map schema_doc ys) (schema_doc s) in
+    let left : docs_schema_count (docs_of rest) ≡ schema_count (own_doc (schema_doc s)) + docs_schema_count (docs_of more) = ap (λ ds. docs_schema_count (docs_of ds)) here ∙ docs_count-cons (own_doc (schema_doc s)) more in
     record {
-      done = [];
-      split = refl;
-      names = ap texts none;
-      read = ap (λ r. prepend_entries (pairs_of place_doc r) (entries_read (ref_or schema) all)) (sym none);
-      outcomes_left = are;
-      counted = omega (arith, counted);
+      fits = so_far.fits ∙ ap (λ r. appended (Some (map schema_doc ys)) (all_own r)) here ∙ sym (and_doc-appended (Some (map schema_doc ys)) (Some (schema_doc s)) (all_own more)) ∙ ap (λ es. appended (Some es) (all_own more)) (sym mapped);
+      counted = omega (arith, so_far.counted, counted, left, own_places (schema_doc s));
     }
 
--- what the next outcome says of the next entry
-pub next_read : (left more : List Entry) (e : Entry) (rest others : List (Option Doc)) (o : Option Doc) → rest ≡ entries_places left → left ≡ e ∷ more → rest ≡ o ∷ others → (read (ref_or schema) (view e.1) ≡ o) × (others ≡ entries_places more)
-next_read left more e rest others o are next here =
-    let both_of : o ∷ others ≡ read (ref_or schema) (view e.1) ∷ entries_places more = sym here ∙ are ∙ ap entries_places next in
-    (cc, cc)
+pub own_stop : (all rest more : List Doc) (ys : List Schema) (k : Kind) (d : Doc) → OwnFilled all rest ys → rest ≡ ref_doc k d ∷ more → list_of_own all ≡ None
+own_stop all rest more ys k d so_far here = ap (option_map (λ l. list_doc (docs_of l))) (so_far.fits ∙ ap (λ r. appended (Some (map schema_doc ys)) (all_own r)) here)
 
--- one entry more, under a copy of its name
-pub map_step : (all left : List Entry) (outcomes rest others : List (Option Doc)) (es fs : List (String Global × RefOr Schema)) (e : Entry) (more : List Entry) (name : String Global) (v : RefOr Schema) → MapFilled all left outcomes rest es
-    → left ≡ e ∷ more → IsStrictlySortedBy string_cmp (keys_of all) → string_bytes name ≡ string_bytes e.0 → fs ≡ insert_entry string_cmp es name v → rest ≡ Some (place_doc v) ∷ others → MapFilled all more outcomes others fs
-map_step all left outcomes rest others es fs e more name v so_far next ordered named put here =
-    let ds = pairs_of place_doc es in
-    let whole : all ≡ so_far.done ++ e ∷ more = so_far.split ∙ ap (λ r. so_far.done ++ r) next in
-    let sorted = subst (λ r. IsStrictlySortedBy string_cmp (keys_of r)) whole ordered in
-    let last : fs ≡ es ++ (name, v) ∷ [] = put ∙ insert_last es so_far.done e more name v so_far.names sorted named in
-    let texts_same : texts es ++ string_bytes name ∷ [] ≡ texts so_far.done ++ string_bytes e.0 ∷ [] = ap (λ ts. ts ++ string_bytes name ∷ []) so_far.names ∙ ap (λ b. texts so_far.done ++ b ∷ []) named in
-    let pairs : pairs_of place_doc fs ≡ ds ++ (string_bytes e.0, place_doc v) ∷ [] = ap (pairs_of place_doc) last ∙ map-append _ es _ ∙ ap (λ b. ds ++ (b, place_doc v) ∷ []) named in
-    let one = next_read left more e rest others (Some (place_doc v)) so_far.outcomes_left next here in
-    let left_counts : counts rest ≡ schema_count (place_doc v) + counts others = ap counts here ∙ counts-cons (Some (place_doc v)) others in
-    let more_counts : entries_schema_count (entries_of_list (pairs_of place_doc fs)) ≡ entries_schema_count (entries_of_list ds) + schema_count (place_doc v) = ap (λ r. entries_schema_count (entries_of_list r)) pairs ∙ entries_schema_count-last ds (string_bytes e.0, place_doc v) in
+pub own_end : (all rest : List Doc) (v : Vec Schema Global) → OwnFilled all rest v.items → rest ≡ [] → Fits {A = Vec Schema Global} (list_of_own all) (list_of_docs schema_doc) (Ok v) (docs_schema_count (docs_of all))
+own_end all rest v so_far here =
     record {
-      done = so_far.done ++ e ∷ [];
-      split = whole ∙ sym (append_assoc so_far.done (e ∷ []) more);
-      names = ap texts last ∙ map-append _ es _ ∙ texts_same ∙ sym (map-append _ so_far.done (e ∷ []));
-      read = entries_read-step (ref_or schema) e more ds (place_doc v) _ (so_far.read ∙ ap (λ r. prepend_entries ds (entries_read (ref_or schema) r)) next) one.0 ∙ ap (λ r. prepend_entries r (entries_read (ref_or schema) more)) (sym pairs);
-      outcomes_left = one.1;
-      counted = omega (arith, so_far.counted, left_counts, more_counts);
-    }
-
--- an entry that fits nothing refuses the map
-pub map_stop : (all left : List Entry) (outcomes rest others : List (Option Doc)) (es : List (String Global × RefOr Schema)) (e : Entry) (more : List Entry) (d : Data) → MapFilled all left outcomes rest es
-    → left ≡ e ∷ more → Some (members_view all) ≡ as_object d → rest ≡ None ∷ others → read (map_of (ref_or schema)) d ≡ None
-map_stop all left outcomes rest others es e more d so_far next is here =
-    let one = next_read left more e rest others None so_far.outcomes_left next here in
-    map_by_entries (ref_or schema) d all None is (entries_read-stop (ref_or schema) e more (pairs_of place_doc es) _ (so_far.read ∙ ap (λ r. prepend_entries (pairs_of place_doc es) (entries_read (ref_or schema) r)) next) one.0)
-
--- there is an outcome for each entry
-pub map_enough : (all left : List Entry) (outcomes rest : List (Option Doc)) (es : List (String Global × RefOr Schema)) (e : Entry) (more : List Entry) → MapFilled all left outcomes rest es → left ≡ e ∷ more → rest ≡ [] → ⊥
-map_enough all left outcomes rest es e more so_far next none =
-    let bad : [] ≡ read (ref_or schema) (view e.1) ∷ entries_places more = sym none ∙ so_far.outcomes_left ∙ ap entries_places next in
-    cc
-
--- after the last entry
-pub map_end : (all left : List Entry) (outcomes rest : List (Option Doc)) (m : BTreeMap (String Global) (RefOr Schema)) (d : Data) → MapFilled all left outcomes rest m.entries → left ≡ [] → Some (members_view all) ≡ as_object d
-    → Fits {A = BTreeMap (String Global) (RefOr Schema)} (read (map_of (ref_or schema)) d) (map_of_docs place_doc) (Ok m) (counts outcomes)
-map_end all left outcomes rest m d so_far none is =
-    record {
-      ok = map_by_entries (ref_or schema) d all _ is (entries_read-end (ref_or schema) (pairs_of place_doc m.entries) _ (so_far.read ∙ ap (λ r. prepend_entries (pairs_of place_doc m.entries) (entries_read (ref_or schema) r)) none));
+      ok = ap (option_map (λ l. list_doc (docs_of l))) (so_far.fits ∙ ap (λ r. appended (Some (map schema_doc v.items)) (all_own r)) here ∙ appended-nil (Some (map schema_doc v.items)));
       err = tt;
-      counted = omega (arith, so_far.counted, schema_count-map (entries_of_list (pairs_of place_doc m.entries)));
+      counted = omega (arith, so_far.counted, schema_count-list (docs_of (map schema_doc v.items)));
     }
+
+-- ---- a map
+
+both_entries_and : (name : List ℕ) (o : Option Doc) (w : Option (List (List ℕ × Doc))) → both_entries name o (option_map entries_of_list w) ≡ option_map entries_of_list (and_entry name o w)
+both_entries_and name None w = refl
+both_entries_and name (Some d) None = refl
+both_entries_and name (Some d) (Some es) = refl
+
+next_all : (es : List Entry) → entries_read (ref_or schema) es ≡ option_map entries_of_list (all_entries (next_entries true (members_view es)))
+next_all [] = entries_read-nil (ref_or schema)
+next_all (e ∷ es) =
+    entries_read-cons (ref_or schema) e es ∙ ap (both_entries (string_bytes e.0) (read (ref_or schema) (view e.1))) (next_all es)
+    ∙ both_entries_and (string_bytes e.0) (read (ref_or schema) (view e.1)) (all_entries (next_entries true (members_view es)))
+
+entries_all : (es : List Entry) → entries_read (ref_or schema) es ≡ option_map entries_of_list (all_entries (entries_of true (members_view es)))
+entries_all [] = entries_read-nil (ref_or schema)
+entries_all (e ∷ es) =
+    entries_read-cons (ref_or schema) e es ∙ ap (both_entries (string_bytes e.0) (read (ref_or schema) (view e.1))) (next_all es)
+    ∙ both_entries_and (string_bytes e.0) (read (ref_or schema) (view e.1)) (all_entries (next_entries true (members_view es)))
+
+-- the values of an object, read as places
+pub map_all : (d : Data) (es : List Entry) → Some (members_view es) ≡ as_object d → read (map_of (ref_or schema)) d ≡ option_map map_doc (option_map entries_of_list (all_entries (entries true d)))
+map_all d es is = map_by_entries (ref_or schema) d es _ is (entries_all es) ∙ ap (λ ps. option_map map_doc (option_map entries_of_list (all_entries ps))) (sym (entries-object true d (members_view es) is))

@@ -2,7 +2,9 @@ pub mod Choices
 pub mod Fewer
 pub mod Filling
 pub mod Fitting
+pub mod Groups
 pub mod MemberCounts
+pub mod Noting
 pub mod SchemaCounts
 pub mod SchemaMembers
 pub mod Taken

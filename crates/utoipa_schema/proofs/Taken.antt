@@ -1,105 +1,122 @@
 -- Outcomes taken off the end of those that were read, member by member.
-use Rattle.std.proofs.Common.{zero, suc, ◌≡◌, ℕ, Bool, true, false, ◌+◌, ◌≤◌, List, [], ◌∷◌, ◌++◌, length, take, drop, map, Option, refl, sym, ap, ◌∙◌, arith, append_assoc, codes}
-use Rattle.std.proofs.lemmas.List.{map-append, take-map, take_at, drop_at, length-append, length-map}
-use Rattle.serde_json.specs.Data.{Data}
-use Rattle.utoipa_base.specs.Docs.{Doc}
+use Rattle.std.proofs.Common.{◌≡◌, ℕ, Bool, ◌+◌, ◌≤◌, List, [], ◌∷◌, ◌++◌, length, Option, Some, refl, sym, ap, ◌∙◌, arith, append_assoc, map, String, Vec, BTreeMap, Global, string_cmp}
+use Rattle.std.proofs.lemmas.List.{append-nil, map-append}
+use Rattle.std.specs.List.Sorted.{IsStrictlySortedBy}
+use Rattle.std.specs.Map.{keys_of}
+use Rattle.serde_json.specs.Data.{Data, null, boolean, number, string, array, object, Members, no_items, item}
+use Rattle.serde_json.specs.View.{members_view}
+use Rattle.serde_json.proofs.Views.{Entry}
+use Rattle.utoipa_base.specs.Docs.{Doc, docs_of, entries_of_list}
+use Rattle.utoipa_base.specs.Kinds.{schema}
+use Rattle.utoipa_base.specs.Refs.{ref_or_doc}
+use Rattle.utoipa_base.specs.Values.{docs_schema_count, entries_schema_count}
+use Rattle.utoipa_base.specs.Views.{pairs_of}
 use Rattle.utoipa_base.specs.declared.refs.RefOr.{RefOr}
-use Rattle.utoipa_schema.specs.Outcomes.{documents, outcome_doc, AreInner}
-use Rattle.utoipa_schema.specs.Places.{Place, read_place, at_each, in_list, in_map, in_one, of_combinations, of_array, of_object, of_content, inner}
-use Rattle.utoipa_schema.specs.declared.outcomes.InnerOutcomes.{InnerOutcomes}
+use Rattle.utoipa_schema.specs.Docs.{schema_doc}
 use Rattle.utoipa_schema.specs.declared.types.Schema.{Schema}
+use Rattle.utoipa_base.proofs.Places.{docs_schema_count-none, entries_schema_count-none}
+use Rattle.utoipa_schema.specs.Outcomes.{Outcomes, of_one, of_list, of_map, one_of_outcomes, list_of_outcomes, map_of_outcomes, count_of, count_of_list, count_of_map, outcomes_of, all_outcomes, list_docs, map_docs, grouped, counts, count_of_outcomes, all_docs, all_entries, Takes, AreEntries, with_last}
+use Rattle.utoipa_schema.specs.Places.{Place, elements, entries, entries_of}
+use Rattle.utoipa_schema.specs.declared.outcomes.Group.{Group}
+use Rattle.utoipa_schema.specs.declared.outcomes.Group.TheVariants as groups
+use Rattle.utoipa_schema.proofs.Groups.{list_grouped, map_grouped, with_last-snoc, counts-last}
 
-drop-map : {X Y : Type 0} (f : X → Y) (n : ℕ) (xs : List X) → drop n (map f xs) ≡ map f (drop n xs)
-drop-map f zero xs = refl
-drop-map f (suc n) [] = refl
-drop-map f (suc n) (x ∷ xs) = drop-map f n xs
+-- ---- where nothing was put, nothing is taken
 
--- a list cut in two, beside two parts
-pub cut : {X Y : Type 0} (f : X → Y) (xs : List X) (n : ℕ) (before after : List Y) → map f xs ≡ before ++ after → n + length after ≡ length xs
-    → (map f (drop n xs) ≡ after) × (map f (take n xs) ≡ before)
-cut f xs n before after is sized =
-    let here : length before ≡ n = omega (arith, length-map xs f, ap length is, length-append before after) in (
-      sym (drop-map f n xs) ∙ ap (drop n) is ∙ drop_at before after n here,
-      sym (take-map f n xs) ∙ ap (take n) is ∙ take_at before after n here,
-    )
+pub nothing_taken : (gs : List Group) (ps : List Place) (Taken : Type 0) → ps ≡ [] → Taken → Takes gs gs ps Taken
+nothing_taken gs ps Taken none taken = λ rest is. (taken, is ∙ ap (λ qs. grouped (rest ++ qs)) none ∙ ap grouped (append-nil rest))
 
--- as many as places in a member
-pub sized : (b : Bool) (ds : List Data) (n : ℕ) → n ≡ length ds → length (map read_place (at_each b ds)) ≡ n
-sized b ds n is = length-map (at_each b ds) read_place ∙ length-map ds (λ d. (b, d)) ∙ sym is
+-- ---- the last group
 
--- there are as many to take
-pub room : (os : List (Option (RefOr Schema))) (before after : List (Option Doc)) (n : ℕ) → documents os ≡ before ++ after → length after ≡ n → n ≤ length os
-room os before after n is many = omega (arith, many, ap length is, length-append before after, length-map os outcome_doc)
+snoc_same : {X : Type 0} (xs ys : List X) (x y : X) → xs ++ x ∷ [] ≡ ys ++ y ∷ [] → (xs ≡ ys) × (x ≡ y)
+snoc_same [] [] x y e = (refl, cc)
+snoc_same [] (z ∷ []) x y e = cc
+snoc_same [] (z ∷ w ∷ ys) x y e = cc
+snoc_same (z ∷ []) [] x y e = cc
+snoc_same (z ∷ w ∷ xs) [] x y e = cc
+snoc_same (z ∷ xs) (w ∷ ys) x y e =
+    let others : xs ++ x ∷ [] ≡ ys ++ y ∷ [] = cc in
+    let first : z ≡ w = cc in
+    let same = snoc_same xs ys x y others in
+    (ap (λ l. z ∷ l) same.0 ∙ ap (λ v. v ∷ ys) first, same.1)
 
--- what taking the last n of f leaves: they, and the others
-abbrev pub Takes : List (Option Doc) → ℕ → List (Option Doc) → List (Option Doc) → Type 0
-Takes f n l g = (before after : List (Option Doc)) → f ≡ before ++ after → length after ≡ n → (l ≡ after) × (g ≡ before)
+-- the group that is taken off is the last of the outcomes, and the others are left
+pub last_taken : (old new : List Group) (g : Group) (gs : List Outcomes) (o : Outcomes) → old ≡ new ++ g ∷ [] → all_outcomes old ≡ gs ++ o ∷ [] → (outcomes_of g ≡ o) × (all_outcomes new ≡ gs)
+last_taken old new g gs o off is =
+    let same = snoc_same (all_outcomes new) gs (outcomes_of g) o (sym (map-append outcomes_of new (g ∷ [])) ∙ ap all_outcomes (sym off) ∙ is) in
+    (same.1, same.0)
 
--- the last of two parts and of three
-pub first_of_two : (f rest a b : List (Option Doc)) → f ≡ rest ++ (a ++ b) → f ≡ (rest ++ a) ++ b
-first_of_two f rest a b is = is ∙ sym (append_assoc rest a b)
+-- there is one
+pub some_last : (old : List Group) (gs : List Outcomes) (o : Outcomes) → old ≡ [] → all_outcomes old ≡ gs ++ o ∷ [] → ⊥
+some_last old [] o none is = (let bad : [] ≡ o ∷ [] = sym (ap all_outcomes none) ∙ is in cc)
+some_last old (g ∷ gs) o none is = (let bad : [] ≡ g ∷ (gs ++ o ∷ []) = sym (ap all_outcomes none) ∙ is in cc)
 
-pub first_of_three : (f rest a b c : List (Option Doc)) → f ≡ rest ++ (a ++ (b ++ c)) → f ≡ ((rest ++ a) ++ b) ++ c
-first_of_three f rest a b c is = first_of_two f rest a (b ++ c) is ∙ sym (append_assoc (rest ++ a) b c)
+-- a group in place of the last one
+pub last_put : (f : Outcomes → Outcomes) (old new others : List Group) (g h : Group) → old ≡ others ++ g ∷ [] → new ≡ others ++ h ∷ [] → outcomes_of h ≡ f (outcomes_of g) → all_outcomes new ≡ with_last f (all_outcomes old)
+last_put f old new others g h off on is =
+    ap all_outcomes on ∙ map-append outcomes_of others (h ∷ []) ∙ ap (λ o. all_outcomes others ++ o ∷ []) is ∙ sym (with_last-snoc f (all_outcomes others) (outcomes_of g))
+    ∙ ap (with_last f) (sym (ap all_outcomes off ∙ map-append outcomes_of others (g ∷ [])))
 
-pub first_of_four : (f rest a b c e : List (Option Doc)) → f ≡ rest ++ (a ++ (b ++ (c ++ e))) → f ≡ (((rest ++ a) ++ b) ++ c) ++ e
-first_of_four f rest a b c e is = first_of_three f rest a b (c ++ e) is ∙ sym (append_assoc ((rest ++ a) ++ b) c e)
+-- the outcomes of a list that is not empty are the last
+pub list_last : (rest : List Place) (b : Bool) (d : Data) (n : ℕ) → n ≡ length (elements b d) → (n ≡ 0 → ⊥) → grouped (rest ++ elements b d) ≡ grouped rest ++ of_list (all_docs (elements b d)) ∷ []
+list_last rest b null n is some = absurd (some is)
+list_last rest b (boolean c) n is some = absurd (some is)
+list_last rest b (number m) n is some = absurd (some is)
+list_last rest b (string s) n is some = absurd (some is)
+list_last rest b (array no_items) n is some = absurd (some is)
+list_last rest b (array (item d ds)) n is some = list_grouped rest b d ds
+list_last rest b (object ms) n is some = absurd (some is)
 
--- ---- the parts of a tree's outcomes
+map_last_of : (rest : List Place) (b : Bool) (ms : Members) (n : ℕ) (es : List Entry) → ms ≡ members_view es → IsStrictlySortedBy string_cmp (keys_of es) → n ≡ length (entries_of b ms) → (n ≡ 0 → ⊥)
+    → grouped (rest ++ entries_of b ms) ≡ grouped rest ++ of_map (all_entries (entries_of b ms)) ∷ []
+map_last_of rest b ms n [] same sorted is some = absurd (some (is ∙ ap (λ m. length (entries_of b m)) same))
+map_last_of rest b ms n (e ∷ es) same sorted is some =
+    ap (λ m. grouped (rest ++ entries_of b m)) same ∙ map_grouped rest b e es sorted ∙ ap (λ m. grouped rest ++ of_map (all_entries (entries_of b m)) ∷ []) (sym same)
 
-pub combinations_read : (d : Data) → map read_place (of_combinations d) ≡ map read_place (in_list true (codes "oneOf") d) ++ (map read_place (in_list true (codes "allOf") d) ++ map read_place (in_list true (codes "anyOf") d))
-unfolding of_combinations
-combinations_read d = map-append read_place (in_list true (codes "oneOf") d) _ ∙ ap (λ l. map read_place (in_list true (codes "oneOf") d) ++ l) (map-append read_place (in_list true (codes "allOf") d) (in_list true (codes "anyOf") d))
+-- those of a map that is not empty too
+pub map_last : (rest : List Place) (b : Bool) (d : Data) (n : ℕ) → AreEntries d → n ≡ length (entries b d) → (n ≡ 0 → ⊥) → grouped (rest ++ entries b d) ≡ grouped rest ++ of_map (all_entries (entries b d)) ∷ []
+map_last rest b null n ordered is some = absurd (some is)
+map_last rest b (boolean c) n ordered is some = absurd (some is)
+map_last rest b (number m) n ordered is some = absurd (some is)
+map_last rest b (string s) n ordered is some = absurd (some is)
+map_last rest b (array ds) n ordered is some = absurd (some is)
+map_last rest b (object ms) n ordered is some = map_last_of rest b ms n ordered.0 ordered.1 ordered.2 is some
 
-pub array_read : (d : Data) → map read_place (of_array d) ≡ map read_place (in_one true (codes "items") d) ++ map read_place (in_list false (codes "prefixItems") d)
-unfolding of_array
-array_read d = map-append read_place (in_one true (codes "items") d) (in_list false (codes "prefixItems") d)
+-- what is left, and what was taken, have no more schema places than there were
+pub left_count : (old new : List Group) (g : Group) (n : ℕ) → old ≡ new ++ g ∷ [] → n ≤ count_of_outcomes (outcomes_of g) → counts (all_outcomes new) + n ≤ counts (all_outcomes old)
+left_count old new g n off within = omega (arith, within, ap (λ l. counts (all_outcomes l)) off, ap counts (map-append outcomes_of new (g ∷ [])), counts-last (all_outcomes new) (outcomes_of g))
 
-pub object_read : (d : Data) → map read_place (of_object d) ≡ map read_place (in_map true (codes "properties") d) ++ (map read_place (in_one true (codes "additionalProperties") d) ++ map read_place (in_one false (codes "propertyNames") d))
-unfolding of_object
-object_read d = map-append read_place (in_map true (codes "properties") d) _ ∙ ap (λ l. map read_place (in_map true (codes "properties") d) ++ l) (map-append read_place (in_one true (codes "additionalProperties") d) (in_one false (codes "propertyNames") d))
+pub one_count : (o : Option Doc) (g : Outcomes) → o ≡ one_of_outcomes g → count_of o ≤ count_of_outcomes g
+one_count o (of_one p) is = omega (arith, ap count_of is)
+one_count o (of_list ds) is = omega (arith, ap count_of is)
+one_count o (of_map es) is = omega (arith, ap count_of is)
 
-pub inner_read : (d : Data) → map read_place (inner d) ≡ map read_place (of_combinations d) ++ (map read_place (of_array d) ++ (map read_place (of_object d) ++ map read_place (of_content d)))
-unfolding inner
-inner_read d =
-    map-append read_place (of_combinations d) _
-    ∙ ap (λ l. map read_place (of_combinations d) ++ l) (map-append read_place (of_array d) _ ∙ ap (λ l. map read_place (of_array d) ++ l) (map-append read_place (of_object d) (of_content d)))
+pub list_count : (o : Option (List Doc)) (g : Outcomes) → o ≡ list_of_outcomes g → count_of_list o ≤ count_of_outcomes g
+list_count o (of_one p) is = omega (arith, ap count_of_list is)
+list_count o (of_list ds) is = omega (arith, ap count_of_list is)
+list_count o (of_map es) is = omega (arith, ap count_of_list is)
 
--- ---- a tree without places
+pub map_count : (o : Option (List (List ℕ × Doc))) (g : Outcomes) → o ≡ map_of_outcomes g → count_of_map o ≤ count_of_outcomes g
+map_count o (of_one p) is = omega (arith, ap count_of_map is)
+map_count o (of_list ds) is = omega (arith, ap count_of_map is)
+map_count o (of_map es) is = omega (arith, ap count_of_map is)
 
-both_empty : {X : Type 0} (xs ys : List X) → xs ++ ys ≡ [] → (xs ≡ []) × (ys ≡ [])
-both_empty [] ys e = (refl, e)
-both_empty (x ∷ xs) ys e = cc
+pub no_list_count : (v : Vec (RefOr Schema) Global) → v.items ≡ [] → count_of_list (list_docs (Some v)) ≡ 0
+no_list_count v none = ap (λ vs. docs_schema_count (docs_of (map (ref_or_doc schema schema_doc) vs))) none ∙ docs_schema_count-none
 
--- no member has an outcome
-pub record HasNone (o : InnerOutcomes) : Type 0 where
-  pub one_of : o.combinations.one_of.items ≡ []
-  pub all_of : o.combinations.all_of.items ≡ []
-  pub any_of : o.combinations.any_of.items ≡ []
-  pub items : o.array.items.items ≡ []
-  pub prefix_items : o.array.prefix_items.items ≡ []
-  pub properties : o.object.properties.items ≡ []
-  pub additional_properties : o.object.additional_properties.items ≡ []
-  pub property_names : o.object.property_names.items ≡ []
-  pub content_schema : o.content_schema.items ≡ []
+pub no_map_count : (m : BTreeMap (String Global) (RefOr Schema)) → m.entries ≡ [] → count_of_map (map_docs (Some m)) ≡ 0
+no_map_count m none = ap (λ es. entries_schema_count (entries_of_list (pairs_of (ref_or_doc schema schema_doc) es))) none ∙ entries_schema_count-none
 
-none_read : (os : List (Option (RefOr Schema))) (ps : List Place) → os ≡ [] → ps ≡ [] → documents os ≡ map read_place ps
-none_read os ps e f = ap documents e ∙ sym (ap (map read_place) f)
+-- ---- two members after one another, of which the second is taken first
 
-pub none_inside : (d : Data) (o : InnerOutcomes) → inner d ≡ [] → HasNone o → AreInner d o
-unfolding inner of_combinations of_array of_object
-none_inside d o none has =
-    let combinations = both_empty (of_combinations d) _ none in
-    let array = both_empty (of_array d) _ combinations.1 in
-    let object = both_empty (of_object d) (of_content d) array.1 in
-    let one_of = both_empty (in_list true (codes "oneOf") d) _ combinations.0 in
-    let others = both_empty (in_list true (codes "allOf") d) _ one_of.1 in
-    let items = both_empty (in_one true (codes "items") d) _ array.0 in
-    let properties = both_empty (in_map true (codes "properties") d) _ object.0 in
-    let keys = both_empty (in_one true (codes "additionalProperties") d) _ properties.1 in
-    record {
-      combinations = record { one_of = none_read _ _ has.one_of one_of.0; all_of = none_read _ _ has.all_of others.0; any_of = none_read _ _ has.any_of others.1 };
-      array = record { items = none_read _ _ has.items items.0; prefix_items = none_read _ _ has.prefix_items items.1 };
-      object = record { properties = none_read _ _ has.properties properties.0; additional_properties = none_read _ _ has.additional_properties keys.0; property_names = none_read _ _ has.property_names keys.1 };
-      content_schema = none_read _ _ has.content_schema object.1;
-    }
+pub both_taken : (old between new : List Group) (ps qs : List Place) (First Second : Type 0) → Takes old between qs Second → Takes between new ps First → Takes old new (ps ++ qs) (First × Second)
+both_taken old between new ps qs First Second second first = λ rest is.
+    let a = second (rest ++ ps) (is ∙ ap grouped (sym (append_assoc rest ps qs))) in
+    let b = first rest a.1 in
+    ((b.0, a.0), b.1)
+
+-- what is taken, said in other words
+pub taken_as : (old new : List Group) (ps qs : List Place) (First Second : Type 0) → ps ≡ qs → Takes old new ps First → (First → Second) → Takes old new qs Second
+taken_as old new ps qs First Second same taken say = λ rest is.
+    let a = taken rest (is ∙ ap (λ l. grouped (rest ++ l)) (sym same)) in
+    (say a.0, a.1)

@@ -1,15 +1,13 @@
 -- The walk that finds the places of a tree, and its way back.
-use Rattle.std.proofs.Common.{suc, ◌≡◌, ℕ, ◌+◌, ◌<◌, ◌≤◌, List, [], ◌∷◌, ◌++◌, length, map, Bool, Option, Some, None, is_some, true, false, All, refl, sym, ap, ◌∙◌, subst, arith, append_assoc, codes}
-use Rattle.std.proofs.lemmas.List.{reverse-append, map-append, length-append}
-use Rattle.std.proofs.lemmas.List.Elements.{All-nil, All-same, All-push}
+use Rattle.std.proofs.Common.{suc, ◌≡◌, ℕ, ◌+◌, ◌<◌, ◌≤◌, List, [], ◌∷◌, ◌++◌, length, map, Bool, Option, Some, None, is_some, true, false, refl, sym, ap, ◌∙◌, subst, arith, append_assoc, codes}
+use Rattle.std.proofs.lemmas.List.{reverse-append, length-append, length-map}
 use Rattle.serde_json.specs.Data.{Data, null, boolean, number, string, array, object, Items, no_items, item, Members, no_members, member}
 use Rattle.serde_json.specs.Find.{get, as_array, as_object, as_null, as_bool}
 use Rattle.serde_json.specs.View.{view, items_view, members_view}
 use Rattle.serde_json.specs.declared.value.Value.{Value}
 use Rattle.serde_json.proofs.Views.{Entry}
 use Rattle.utoipa_base.specs.Values.{values, items_values, members_values, values_of, values_at}
-use Rattle.utoipa_schema.specs.Places.{Place, place_of, rows, IsMarked, items_list, members_list, elements, entries, alone, part, at_each, in_list, in_map, in_one, of_combinations, of_array, of_object, of_content, inner, total, Reached, Walked}
-use Rattle.utoipa_schema.specs.declared.places.TableRow.{TableRow}
+use Rattle.utoipa_schema.specs.Places.{Place, Stands, place_at, by_itself, next_in_list, items_list, elements_of, next_entries, entries_of, elements, entries, alone, part, in_list, in_map, in_one, InnerData, members_of, of_combinations, of_array, of_object, of_content, of_each, inner, total, Reached, Walked}
 use Rattle.utoipa_schema.proofs.SchemaMembers.{schema_values}
 
 -- ---- the elements of a list and the values of an object
@@ -18,69 +16,83 @@ pub items_list-view : (vs : List Value) → items_list (items_view vs) ≡ map v
 items_list-view [] = refl
 items_list-view (v ∷ vs) = ap (λ ds. view v ∷ ds) (items_list-view vs)
 
-pub elements-array : (d : Data) (ds : Items) → Some ds ≡ as_array d → elements d ≡ items_list ds
-elements-array null ds e = cc
-elements-array (boolean b) ds e = cc
-elements-array (number n) ds e = cc
-elements-array (string s) ds e = cc
-elements-array (array es) ds e = (let q : es ≡ ds = cc in ap items_list q)
-elements-array (object ms) ds e = cc
+pub elements-array : (b : Bool) (d : Data) (ds : Items) → Some ds ≡ as_array d → elements b d ≡ elements_of b ds
+elements-array b null ds e = cc
+elements-array b (boolean c) ds e = cc
+elements-array b (number n) ds e = cc
+elements-array b (string s) ds e = cc
+elements-array b (array es) ds e = (let q : es ≡ ds = cc in ap (elements_of b) q)
+elements-array b (object ms) ds e = cc
 
-pub elements-none : (d : Data) → as_array d ≡ None → elements d ≡ []
-elements-none null e = refl
-elements-none (boolean b) e = refl
-elements-none (number n) e = refl
-elements-none (string s) e = refl
-elements-none (array es) e = cc
-elements-none (object ms) e = refl
+pub elements-none : (b : Bool) (d : Data) → as_array d ≡ None → elements b d ≡ []
+elements-none b null e = refl
+elements-none b (boolean c) e = refl
+elements-none b (number n) e = refl
+elements-none b (string s) e = refl
+elements-none b (array es) e = cc
+elements-none b (object ms) e = refl
 
-pub entries-object : (d : Data) (ms : Members) → Some ms ≡ as_object d → entries d ≡ members_list ms
-entries-object null ms e = cc
-entries-object (boolean b) ms e = cc
-entries-object (number n) ms e = cc
-entries-object (string s) ms e = cc
-entries-object (array es) ms e = cc
-entries-object (object ns) ms e = (let q : ns ≡ ms = cc in ap members_list q)
+pub entries-object : (b : Bool) (d : Data) (ms : Members) → Some ms ≡ as_object d → entries b d ≡ entries_of b ms
+entries-object b null ms e = cc
+entries-object b (boolean c) ms e = cc
+entries-object b (number n) ms e = cc
+entries-object b (string s) ms e = cc
+entries-object b (array es) ms e = cc
+entries-object b (object ns) ms e = (let q : ns ≡ ms = cc in ap (entries_of b) q)
 
-pub entries-none : (d : Data) → as_object d ≡ None → entries d ≡ []
-entries-none null e = refl
-entries-none (boolean b) e = refl
-entries-none (number n) e = refl
-entries-none (string s) e = refl
-entries-none (array es) e = refl
-entries-none (object ms) e = cc
+pub entries-none : (b : Bool) (d : Data) → as_object d ≡ None → entries b d ≡ []
+entries-none b null e = refl
+entries-none b (boolean c) e = refl
+entries-none b (number n) e = refl
+entries-none b (string s) e = refl
+entries-none b (array es) e = refl
+entries-none b (object ms) e = cc
 
-pub alone-null : (d : Data) → is_some (as_null d) ≡ true → alone d ≡ []
-alone-null null e = refl
-alone-null (boolean b) e = cc
-alone-null (number n) e = cc
-alone-null (string s) e = cc
-alone-null (array es) e = cc
-alone-null (object ms) e = cc
+pub alone-null : (b : Bool) (d : Data) → is_some (as_null d) ≡ true → alone b d ≡ []
+alone-null b null e = refl
+alone-null b (boolean c) e = cc
+alone-null b (number n) e = cc
+alone-null b (string s) e = cc
+alone-null b (array es) e = cc
+alone-null b (object ms) e = cc
 
-pub alone-boolean : (d : Data) → is_some (as_bool d) ≡ true → alone d ≡ []
-alone-boolean null e = cc
-alone-boolean (boolean b) e = refl
-alone-boolean (number n) e = cc
-alone-boolean (string s) e = cc
-alone-boolean (array es) e = cc
-alone-boolean (object ms) e = cc
+pub alone-boolean : (b : Bool) (d : Data) → is_some (as_bool d) ≡ true → alone b d ≡ []
+alone-boolean b null e = cc
+alone-boolean b (boolean c) e = refl
+alone-boolean b (number n) e = cc
+alone-boolean b (string s) e = cc
+alone-boolean b (array es) e = cc
+alone-boolean b (object ms) e = cc
 
-pub alone-other : (d : Data) → is_some (as_null d) ≡ false → is_some (as_bool d) ≡ false → alone d ≡ d ∷ []
-alone-other null e f = cc
-alone-other (boolean b) e f = cc
-alone-other (number n) e f = refl
-alone-other (string s) e f = refl
-alone-other (array es) e f = refl
-alone-other (object ms) e f = refl
+pub alone-other : (b : Bool) (d : Data) → is_some (as_null d) ≡ false → is_some (as_bool d) ≡ false → alone b d ≡ place_at b by_itself d ∷ []
+alone-other b null e f = cc
+alone-other b (boolean c) e f = cc
+alone-other b (number n) e f = refl
+alone-other b (string s) e f = refl
+alone-other b (array es) e f = refl
+alone-other b (object ms) e f = refl
 
-pub members_length : (es : List Entry) → length (members_list (members_view es)) ≡ length es
-members_length [] = refl
-members_length (e ∷ es) = ap (λ n. suc n) (members_length es)
+items_list-length : (vs : List Value) → length (items_list (items_view vs)) ≡ length vs
+items_list-length [] = refl
+items_list-length (v ∷ vs) = ap (λ n. suc n) (items_list-length vs)
 
-pub items_length : (vs : List Value) → length (items_list (items_view vs)) ≡ length vs
-items_length [] = refl
-items_length (v ∷ vs) = ap (λ n. suc n) (items_length vs)
+elements_of-length : (b : Bool) (vs : List Value) → length (elements_of b (items_view vs)) ≡ length vs
+elements_of-length b [] = refl
+elements_of-length b (v ∷ vs) = ap (λ n. suc n) (length-map (items_list (items_view vs)) (place_at b next_in_list) ∙ items_list-length vs)
+
+pub elements_length : (b : Bool) (d : Data) (vs : List Value) → Some (items_view vs) ≡ as_array d → length (elements b d) ≡ length vs
+elements_length b d vs is = ap length (elements-array b d (items_view vs) is) ∙ elements_of-length b vs
+
+next_entries-length : (b : Bool) (es : List Entry) → length (next_entries b (members_view es)) ≡ length es
+next_entries-length b [] = refl
+next_entries-length b (e ∷ es) = ap (λ n. suc n) (next_entries-length b es)
+
+entries_of-length : (b : Bool) (es : List Entry) → length (entries_of b (members_view es)) ≡ length es
+entries_of-length b [] = refl
+entries_of-length b (e ∷ es) = ap (λ n. suc n) (next_entries-length b es)
+
+pub entries_length : (b : Bool) (d : Data) (es : List Entry) → Some (members_view es) ≡ as_object d → length (entries b d) ≡ length es
+entries_length b d es is = ap length (entries-object b d (members_view es) is) ∙ entries_of-length b es
 
 -- ---- values
 
@@ -89,43 +101,53 @@ unfolding total
 total-append [] ys = omega arith
 total-append (x ∷ xs) ys = omega (arith, total-append xs ys)
 
-pub total-last : (xs : List Place) (p : Place) → total (xs ++ p ∷ []) ≡ total xs + values p.1
+pub total-last : (xs : List Place) (p : Place) → total (xs ++ p ∷ []) ≡ total xs + values p.tree
 unfolding total
 total-last xs p = total-append xs (p ∷ []) ∙ omega arith
 
-pub total-one : (p : Place) → total (p ∷ []) ≡ values p.1
+pub total-one : (p : Place) → total (p ∷ []) ≡ values p.tree
 unfolding total
 total-one p = omega arith
 
-total-items : (b : Bool) (ds : Items) → total (at_each b (items_list ds)) ≡ items_values ds
+total-items : (b : Bool) (s : Stands) (ds : Items) → total (map (place_at b s) (items_list ds)) ≡ items_values ds
 unfolding total values items_values
-total-items b no_items = refl
-total-items b (item d ds) = ap (λ n. values d + n) (total-items b ds)
+total-items b s no_items = refl
+total-items b s (item d ds) = ap (λ n. values d + n) (total-items b s ds)
 
-total-members : (b : Bool) (ms : Members) → total (at_each b (members_list ms)) ≡ members_values ms
+total-elements : (b : Bool) (ds : Items) → total (elements_of b ds) ≡ items_values ds
+unfolding total values items_values
+total-elements b no_items = refl
+total-elements b (item d ds) = ap (λ n. values d + n) (total-items b next_in_list ds)
+
+total-next : (b : Bool) (ms : Members) → total (next_entries b ms) ≡ members_values ms
 unfolding total values members_values
-total-members b no_members = refl
-total-members b (member k d ms) = ap (λ n. values d + n) (total-members b ms)
+total-next b no_members = refl
+total-next b (member k d ms) = ap (λ n. values d + n) (total-next b ms)
 
-pub elements_fewer : (b : Bool) (d : Data) → total (at_each b (elements d)) ≤ values d
+total-entries : (b : Bool) (ms : Members) → total (entries_of b ms) ≡ members_values ms
+unfolding total values members_values
+total-entries b no_members = refl
+total-entries b (member k d ms) = ap (λ n. values d + n) (total-next b ms)
+
+pub elements_fewer : (b : Bool) (d : Data) → total (elements b d) ≤ values d
 unfolding total values
 elements_fewer b null = omega arith
 elements_fewer b (boolean c) = omega arith
 elements_fewer b (number n) = omega arith
 elements_fewer b (string s) = omega arith
-elements_fewer b (array ds) = omega (arith, total-items b ds)
+elements_fewer b (array ds) = omega (arith, total-elements b ds)
 elements_fewer b (object ms) = omega arith
 
-pub entries_fewer : (b : Bool) (d : Data) → total (at_each b (entries d)) ≤ values d
+pub entries_fewer : (b : Bool) (d : Data) → total (entries b d) ≤ values d
 unfolding total values
 entries_fewer b null = omega arith
 entries_fewer b (boolean c) = omega arith
 entries_fewer b (number n) = omega arith
 entries_fewer b (string s) = omega arith
 entries_fewer b (array ds) = omega arith
-entries_fewer b (object ms) = omega (arith, total-members b ms)
+entries_fewer b (object ms) = omega (arith, total-entries b ms)
 
-pub alone_fewer : (b : Bool) (d : Data) → total (at_each b (alone d)) ≤ values d
+pub alone_fewer : (b : Bool) (d : Data) → total (alone b d) ≤ values d
 unfolding total values
 alone_fewer b null = omega arith
 alone_fewer b (boolean c) = omega arith
@@ -134,21 +156,21 @@ alone_fewer b (string s) = omega arith
 alone_fewer b (array ds) = omega arith
 alone_fewer b (object ms) = omega arith
 
-part_fewer : (b : Bool) (f : Data → List Data) → ((d : Data) → total (at_each b (f d)) ≤ values d) → (o : Option Data) → total (at_each b (part f o)) ≤ values_of o
+part_fewer : (f : Data → List Place) → ((d : Data) → total (f d) ≤ values d) → (o : Option Data) → total (part f o) ≤ values_of o
 unfolding total values_of
-part_fewer b f h None = omega arith
-part_fewer b f h (Some d) = h d
+part_fewer f h None = omega arith
+part_fewer f h (Some d) = h d
 
 pub list_fewer : (b : Bool) (name : List ℕ) (d : Data) → total (in_list b name d) ≤ values_at name d
-list_fewer b name d = part_fewer b elements (elements_fewer b) (get name d)
+list_fewer b name d = part_fewer (elements b) (elements_fewer b) (get name d)
 
 pub map_fewer : (b : Bool) (name : List ℕ) (d : Data) → total (in_map b name d) ≤ values_at name d
-map_fewer b name d = part_fewer b entries (entries_fewer b) (get name d)
+map_fewer b name d = part_fewer (entries b) (entries_fewer b) (get name d)
 
 pub one_fewer : (b : Bool) (name : List ℕ) (d : Data) → total (in_one b name d) ≤ values_at name d
-one_fewer b name d = part_fewer b alone (alone_fewer b) (get name d)
+one_fewer b name d = part_fewer (alone b) (alone_fewer b) (get name d)
 
-pub combinations_fewer : (d : Data) → total (of_combinations d) ≤ values_at (codes "oneOf") d + (values_at (codes "allOf") d + values_at (codes "anyOf") d)
+pub combinations_fewer : (d : Data) → total (of_combinations (members_of d)) ≤ values_at (codes "oneOf") d + (values_at (codes "allOf") d + values_at (codes "anyOf") d)
 unfolding of_combinations
 combinations_fewer d =
     let a = in_list true (codes "oneOf") d in
@@ -156,14 +178,14 @@ combinations_fewer d =
     let c = in_list true (codes "anyOf") d in
     omega (arith, total-append a (b ++ c), total-append b c, list_fewer true (codes "oneOf") d, list_fewer true (codes "allOf") d, list_fewer true (codes "anyOf") d)
 
-pub array_fewer : (d : Data) → total (of_array d) ≤ values_at (codes "items") d + values_at (codes "prefixItems") d
+pub array_fewer : (d : Data) → total (of_array (members_of d)) ≤ values_at (codes "items") d + values_at (codes "prefixItems") d
 unfolding of_array
 array_fewer d =
     let a = in_one true (codes "items") d in
     let b = in_list false (codes "prefixItems") d in
     omega (arith, total-append a b, one_fewer true (codes "items") d, list_fewer false (codes "prefixItems") d)
 
-pub object_fewer : (d : Data) → total (of_object d) ≤ values_at (codes "properties") d + (values_at (codes "additionalProperties") d + values_at (codes "propertyNames") d)
+pub object_fewer : (d : Data) → total (of_object (members_of d)) ≤ values_at (codes "properties") d + (values_at (codes "additionalProperties") d + values_at (codes "propertyNames") d)
 unfolding of_object
 object_fewer d =
     let a = in_map true (codes "properties") d in
@@ -173,12 +195,12 @@ object_fewer d =
 
 -- the inner places have together fewer values than the tree
 pub inner_fewer : (d : Data) → total (inner d) < values d
-unfolding inner
+unfolding of_each
 inner_fewer d =
-    let a = of_combinations d in
-    let b = of_array d in
-    let c = of_object d in
-    let e = of_content d in
+    let a = of_combinations (members_of d) in
+    let b = of_array (members_of d) in
+    let c = of_object (members_of d) in
+    let e = of_content (members_of d) in
     omega (arith, schema_values d, total-append a (b ++ (c ++ e)), total-append b (c ++ e), total-append c e, combinations_fewer d, array_fewer d, object_fewer d, one_fewer true (codes "contentSchema") d)
 
 -- ---- the walk
@@ -188,12 +210,12 @@ unfolding Reached
 at_roots roots = refl
 
 -- one more row, and its inner places on the stack
-pub visit : (roots : List Place) (p : Place) (table rest : List Place) → Walked roots table (rest ++ p ∷ []) → Walked roots (table ++ p ∷ []) (rest ++ inner p.1)
+pub visit : (roots : List Place) (p : Place) (table rest : List Place) → Walked roots table (rest ++ p ∷ []) → Walked roots (table ++ p ∷ []) (rest ++ inner p.tree)
 unfolding Reached
 visit roots p table rest h = rw (reverse-append table (p ∷ [])) (rest, refl, h)
 
 -- the way back: the last row's inner places are at the end of the stack, and it takes their place
-pub unvisit : (roots : List Place) (p : Place) (table stack : List Place) → Walked roots (table ++ p ∷ []) stack → (rest : List Place) × (stack ≡ rest ++ inner p.1) × Walked roots table (rest ++ p ∷ [])
+pub unvisit : (roots : List Place) (p : Place) (table stack : List Place) → Walked roots (table ++ p ∷ []) stack → (rest : List Place) × (stack ≡ rest ++ inner p.tree) × Walked roots table (rest ++ p ∷ [])
 unfolding Reached
 unvisit roots p table stack h = rw (reverse-append table (p ∷ [])) at h
 
@@ -201,55 +223,45 @@ pub end : (roots stack : List Place) → Walked roots [] stack → stack ≡ roo
 unfolding Reached
 end roots stack h = h
 
--- what the walk has come to: the rows of its table, and the places on its stack
-pub record Walking (roots : List Place) (table : List TableRow) (stack : List Place) : Type 0 where
-  pub walked : Walked roots (rows table) stack
+-- what the walk has come to: its table, and the places on its stack
+pub record Walking (roots table stack : List Place) : Type 0 where
+  pub walked : Walked roots table stack
   pub few : length table + total stack ≤ total roots
-  pub marked : All IsMarked table
 
-pub walking_begun : (roots : List Place) (table : List TableRow) → table ≡ [] → Walking roots table roots
+pub walking_begun : (roots table : List Place) → table ≡ [] → Walking roots table roots
 walking_begun roots table none =
     record {
-      walked = subst (λ t. Walked roots (rows t) roots) (sym none) (at_roots roots);
+      walked = subst (λ t. Walked roots t roots) (sym none) (at_roots roots);
       few = omega (arith, ap length none);
-      marked = All-same IsMarked table [] none (All-nil IsMarked);
     }
 
 -- the place at the end of the stack is one more row, and its inner places are put there
-pub walking_step : (roots : List Place) (table new : List TableRow) (row : TableRow) (stack rest more : List Place) → Walking roots table stack → stack ≡ rest ++ place_of row.place ∷ []
-    → more ≡ rest ++ inner (view row.place.tree.now) → new ≡ table ++ row ∷ [] → IsMarked row → Walking roots new more
-walking_step roots table new row stack rest more so_far before put pushed marked =
-    let place = place_of row.place in
-    let was = subst (λ s. Walked roots (rows table) s) before so_far.walked in
-    let now = visit roots place (rows table) rest was in
-    let table_is : rows new ≡ rows table ++ place ∷ [] = ap rows pushed ∙ map-append _ table (row ∷ []) in
-    let longer : length new ≡ length table + 1 = ap length pushed ∙ length-append table (row ∷ []) in
+pub walking_step : (roots table new : List Place) (p : Place) (stack rest more : List Place) → Walking roots table stack → stack ≡ rest ++ p ∷ [] → more ≡ rest ++ inner p.tree → new ≡ table ++ p ∷ []
+    → Walking roots new more
+walking_step roots table new p stack rest more so_far before put pushed =
+    let was = subst (λ s. Walked roots table s) before so_far.walked in
+    let now = visit roots p table rest was in
+    let longer : length new ≡ length table + 1 = ap length pushed ∙ length-append table (p ∷ []) in
     record {
-      walked = subst (λ s. Walked roots (rows new) s) (sym put) (subst (λ t. Walked roots t (rest ++ inner place.1)) (sym table_is) now);
-      few = omega (arith, so_far.few, ap total before, total-last rest place, ap total put, total-append rest (inner place.1), inner_fewer place.1, longer);
-      marked = All-same IsMarked new (table ++ row ∷ []) pushed (All-push IsMarked table row so_far.marked marked);
+      walked = subst (λ s. Walked roots new s) (sym put) (subst (λ t. Walked roots t (rest ++ inner p.tree)) (sym pushed) now);
+      few = omega (arith, so_far.few, ap total before, total-last rest p, ap total put, total-append rest (inner p.tree), inner_fewer p.tree, longer);
     }
 
--- no more stands on the stack than before, so nothing was put there
-pub nothing_put : (more rest inside : List Place) → more ≡ rest ++ inside → length more ≤ length rest → inside ≡ []
-nothing_put more rest [] put few = refl
-nothing_put more rest (p ∷ ps) put few = absurd (omega (arith, few, ap length put, length-append rest (p ∷ ps)))
+pub each-parts : (m : InnerData) → of_each m ≡ of_combinations m ++ (of_array m ++ (of_object m ++ of_content m))
+unfolding of_each
+each-parts m = refl
 
-pub inner-parts : (d : Data) → inner d ≡ of_combinations d ++ (of_array d ++ (of_object d ++ of_content d))
-unfolding inner
-inner-parts d = refl
-
-pub combinations-parts : (d : Data) → of_combinations d ≡ in_list true (codes "oneOf") d ++ (in_list true (codes "allOf") d ++ in_list true (codes "anyOf") d)
+pub combinations-parts : (m : InnerData) → of_combinations m ≡ part (elements true) m.one_of ++ (part (elements true) m.all_of ++ part (elements true) m.any_of)
 unfolding of_combinations
-combinations-parts d = refl
+combinations-parts m = refl
 
-pub array-parts : (d : Data) → of_array d ≡ in_one true (codes "items") d ++ in_list false (codes "prefixItems") d
+pub array-parts : (m : InnerData) → of_array m ≡ part (alone true) m.items ++ part (elements false) m.prefix_items
 unfolding of_array
-array-parts d = refl
+array-parts m = refl
 
-pub object-parts : (d : Data) → of_object d ≡ in_map true (codes "properties") d ++ (in_one true (codes "additionalProperties") d ++ in_one false (codes "propertyNames") d)
+pub object-parts : (m : InnerData) → of_object m ≡ part (entries true) m.properties ++ (part (alone true) m.additional_properties ++ part (alone false) m.property_names)
 unfolding of_object
-object-parts d = refl
+object-parts m = refl
 
 -- parts put on the stack after one another
 pub joined_two : {X : Type 0} (s a b x y : List X) → x ≡ s ++ a → y ≡ x ++ b → y ≡ s ++ (a ++ b)

@@ -9,6 +9,7 @@ mod assemble;
 pub mod conversions;
 mod copy;
 mod fill;
+mod inner_members;
 mod members;
 pub mod object;
 pub mod one_of;

@@ -1,5 +1,7 @@
 //! The members of a schema that hold schemas, whose places have been read before.
 ghost use Rattle.std.specs.Prelude.{◌≡◌, option_map, map, codes, true, false};
+ghost use Rattle.serde_json.specs.Data.{Data};
+ghost use Rattle.serde_json.specs.Find.{get};
 ghost use Rattle.serde_json.specs.View.{view};
 ghost use Rattle.utoipa_base.specs.Fields.{field};
 ghost use Rattle.utoipa_base.specs.Kinds.{schema, array_items, additional_properties as additional_kind, ref_or, list_of, map_of, required, optional, defaulted};
@@ -9,61 +11,44 @@ ghost use Rattle.utoipa_base.specs.Tables.{row};
 ghost use Rattle.utoipa_base.specs.Views.{boxed, option_of, list_of_docs, map_of_docs};
 ghost use Rattle.utoipa_schema.specs.Choice.{content_schema_doc};
 ghost use Rattle.utoipa_schema.specs.Docs.{places_doc, additional_properties_doc, schema_doc, array_items_doc};
-ghost use Rattle.utoipa_schema.specs.Outcomes.{documents, outcome_doc, own_part, counts, last, all_of_list, Fits};
-ghost use Rattle.utoipa_schema.specs.Places.{read_place, at_each, elements, entries, alone, in_list, in_map, in_one, of_content};
+ghost use Rattle.utoipa_schema.specs.Outcomes.{outcome_doc, list_docs, map_docs, own_part, list_of_own, count_of, count_of_list, count_of_map, last, all_docs, all_entries, Fits};
+ghost use Rattle.utoipa_schema.specs.Places.{elements, entries, alone, part, found};
 
-use crate::outcomes::Outcomes;
+use crate::outcomes::{ListOutcome, MapOutcome, Outcome};
 use crate::types::{AdditionalProperties, ArrayItems, Schema};
 use serde_json::Value;
 use std::alloc::Global;
 use std::collections::BTreeMap;
 use utoipa_base::{ReadFault, RefOr};
 
-/// All places, where each fits something. Fails with `Alternative` where one does not.
-fn all_places(alloc: Global, outcomes: Outcomes) -> Result<Vec<RefOr<Schema>>, ReadFault>
-    ensures { Fits (all_of_list (documents outcomes.items)) (places_doc schema_doc) result (counts (documents outcomes.items)) }
-{
-    let mut list = Vec::new(alloc);
-    for outcome in outcomes {
-        match outcome {
-            Some(place) => list.push(place)?,
-            None => return Err(ReadFault::Alternative),
-        }
-    }
-    Ok(list)
-}
-
 /// The schema that a place holds, where it is no reference and fits one.
-fn own_schema(outcome: Option<RefOr<Schema>>) -> Option<Schema>
+fn own_schema(outcome: Outcome) -> Option<Schema>
     ensures { option_map schema_doc result ≡ own_part (outcome_doc outcome) }
 {
-    match outcome {
-        Some(RefOr::T(schema)) => Some(schema),
-        Some(RefOr::Ref(_)) | None => None,
+    match Box::into_inner(outcome?) {
+        RefOr::T(schema) => Some(schema),
+        RefOr::Ref(_) => None,
     }
 }
 
-/// All schemas, where each place holds one. Fails with `Alternative` where one does not.
-fn all_schemas(alloc: Global, outcomes: Outcomes) -> Result<Vec<Schema>, ReadFault>
-    ensures { Fits (all_of_list (map own_part (documents outcomes.items))) (list_of_docs schema_doc) result (counts (documents outcomes.items)) }
+/// The schemas of a list, where each of its places holds one. Fails with `Alternative` where one does not.
+fn all_schemas(alloc: Global, places: Vec<RefOr<Schema>>) -> Result<Vec<Schema>, ReadFault>
+    ensures { Fits (list_of_own (map (ref_or_doc schema schema_doc) places.items)) (list_of_docs schema_doc) result (count_of_list (list_docs (Some places))) }
 {
     let mut list = Vec::new(alloc);
-    for outcome in outcomes {
-        match own_schema(outcome) {
-            Some(schema) => list.push(schema)?,
-            None => return Err(ReadFault::Alternative),
+    for place in places {
+        match place {
+            RefOr::T(schema) => list.push(schema)?,
+            RefOr::Ref(_) => return Err(ReadFault::Alternative),
         }
     }
     Ok(list)
 }
 
 /// The one place that there is. Fails with `Alternative` where it fits nothing, and where there is none.
-pub(crate) fn only_place(mut outcomes: Outcomes) -> Result<RefOr<Schema>, ReadFault>
-    ensures { Fits (last (documents outcomes.items)) (ref_or_doc schema schema_doc) result (counts (documents outcomes.items)) }
+pub(crate) fn only_place(outcome: Outcome) -> Result<Box<RefOr<Schema>>, ReadFault>
+    ensures { Fits (outcome_doc outcome) (boxed (ref_or_doc schema schema_doc)) result (count_of (outcome_doc outcome)) }
 {
-    let Some(outcome) = outcomes.pop() else {
-        return Err(ReadFault::Alternative);
-    };
     match outcome {
         Some(place) => Ok(place),
         None => Err(ReadFault::Alternative),
@@ -71,12 +56,9 @@ pub(crate) fn only_place(mut outcomes: Outcomes) -> Result<RefOr<Schema>, ReadFa
 }
 
 /// The schema in the one place that there is. Fails with `Alternative` where it holds none, and where there is no place.
-pub(crate) fn only_schema(mut outcomes: Outcomes) -> Result<Schema, ReadFault>
-    ensures { Fits (own_part (last (documents outcomes.items))) schema_doc result (counts (documents outcomes.items)) }
+pub(crate) fn only_schema(outcome: Outcome) -> Result<Schema, ReadFault>
+    ensures { Fits (own_part (outcome_doc outcome)) schema_doc result (count_of (outcome_doc outcome)) }
 {
-    let Some(outcome) = outcomes.pop() else {
-        return Err(ReadFault::Alternative);
-    };
     match own_schema(outcome) {
         Some(schema) => Ok(schema),
         None => Err(ReadFault::Alternative),
@@ -85,77 +67,65 @@ pub(crate) fn only_schema(mut outcomes: Outcomes) -> Result<Schema, ReadFault>
 
 /// A list of references and schemas. Fails where the tree is no list, and where an element is neither.
 pub(crate) fn places_in_list(
-    alloc: Global,
     tree: &Value,
-    outcomes: Outcomes,
+    outcome: ListOutcome,
 ) -> Result<Vec<RefOr<Schema>>, ReadFault>
-    requires { documents outcomes.items ≡ map read_place (at_each true (elements (view tree.now))) }
-    ensures { Fits (read (list_of (ref_or schema)) (view tree.now)) (places_doc schema_doc) result (counts (documents outcomes.items)) }
+    requires { list_docs outcome ≡ all_docs (elements true (view tree.now)) }
+    ensures { Fits (read (list_of (ref_or schema)) (view tree.now)) (places_doc schema_doc) result (count_of_list (list_docs outcome)) }
 {
     let Some(_list) = tree.as_array() else {
         return Err(ReadFault::Kind("list"));
     };
-    all_places(alloc, outcomes)
+    match outcome {
+        Some(places) => Ok(places),
+        None => Err(ReadFault::Alternative),
+    }
 }
 
 /// A list of schemas. Fails where the tree is no list, and where an element is no schema.
 fn schemas_in_list(
     alloc: Global,
     tree: &Value,
-    outcomes: Outcomes,
+    outcome: ListOutcome,
 ) -> Result<Vec<Schema>, ReadFault>
-    requires { documents outcomes.items ≡ map read_place (at_each false (elements (view tree.now))) }
-    ensures { Fits (read (list_of schema) (view tree.now)) (list_of_docs schema_doc) result (counts (documents outcomes.items)) }
+    requires { list_docs outcome ≡ all_docs (elements false (view tree.now)) }
+    ensures { Fits (read (list_of schema) (view tree.now)) (list_of_docs schema_doc) result (count_of_list (list_docs outcome)) }
 {
     let Some(_list) = tree.as_array() else {
         return Err(ReadFault::Kind("list"));
     };
-    all_schemas(alloc, outcomes)
+    match outcome {
+        Some(places) => all_schemas(alloc, places),
+        None => Err(ReadFault::Alternative),
+    }
 }
 
 /// References and schemas by their names. Fails where the tree is no object, and where a member is neither.
 pub(crate) fn places_by_name(
-    alloc: Global,
     tree: &Value,
-    outcomes: Outcomes,
+    outcome: MapOutcome,
 ) -> Result<BTreeMap<String, RefOr<Schema>>, ReadFault>
-    requires { documents outcomes.items ≡ map read_place (at_each true (entries (view tree.now))) }
-    ensures { Fits (read (map_of (ref_or schema)) (view tree.now)) (map_of_docs (ref_or_doc schema schema_doc)) result (counts (documents outcomes.items)) }
+    requires { map_docs outcome ≡ all_entries (entries true (view tree.now)) }
+    ensures { Fits (read (map_of (ref_or schema)) (view tree.now)) (map_of_docs (ref_or_doc schema schema_doc)) result (count_of_map (map_docs outcome)) }
 {
-    let Some(members) = tree.as_object() else {
+    let Some(_members) = tree.as_object() else {
         return Err(ReadFault::Kind("map"));
     };
-    let mut outcomes = outcomes.into_iter();
-    let mut map = BTreeMap::new(alloc);
-    for (key, _member) in members.iter() {
-        let Some(outcome) = outcomes.next() else {
-            return Err(ReadFault::Alternative);
-        };
-        let Some(place) = outcome else {
-            return Err(ReadFault::Alternative);
-        };
-        let name = key.clone()?;
-        drop(map.insert(name, place)?);
+    match outcome {
+        Some(places) => Ok(places),
+        None => Err(ReadFault::Alternative),
     }
-    Ok(map)
 }
 
 /// What the items of an array are: `false`, a reference, or a schema. Fails where the tree is none of these.
-pub(crate) fn items_from(
-    alloc: Global,
-    tree: &Value,
-    outcomes: Outcomes,
-) -> Result<ArrayItems, ReadFault>
-    requires { documents outcomes.items ≡ map read_place (at_each true (alone (view tree.now))) }
-    ensures { Fits (read array_items (view tree.now)) array_items_doc result (counts (documents outcomes.items)) }
+pub(crate) fn items_from(tree: &Value, outcome: Outcome) -> Result<ArrayItems, ReadFault>
+    requires { outcome_doc outcome ≡ last (alone true (view tree.now)) }
+    ensures { Fits (read array_items (view tree.now)) array_items_doc result (count_of (outcome_doc outcome)) }
 {
     match tree.as_bool() {
         Some(false) => Ok(ArrayItems::False),
         Some(true) => Err(ReadFault::Alternative),
-        None => {
-            let place = only_place(outcomes)?;
-            Ok(ArrayItems::RefOrSchema(Box::new(alloc, place)?))
-        }
+        None => Ok(ArrayItems::RefOrSchema(only_place(outcome)?)),
     }
 }
 
@@ -163,44 +133,45 @@ pub(crate) fn items_from(
 /// of these.
 pub(crate) fn additional_from(
     tree: &Value,
-    outcomes: Outcomes,
+    outcome: Outcome,
 ) -> Result<AdditionalProperties<Schema>, ReadFault>
-    requires { documents outcomes.items ≡ map read_place (at_each true (alone (view tree.now))) }
-    ensures { Fits (read additional_kind (view tree.now)) (additional_properties_doc schema_doc) result (counts (documents outcomes.items)) }
+    requires { outcome_doc outcome ≡ last (alone true (view tree.now)) }
+    ensures { Fits (read additional_kind (view tree.now)) (additional_properties_doc schema_doc) result (count_of (outcome_doc outcome)) }
 {
     match tree.as_bool() {
         Some(free) => Ok(AdditionalProperties::FreeForm(free)),
-        None => Ok(AdditionalProperties::RefOr(only_place(outcomes)?)),
+        None => {
+            let place = only_place(outcome)?;
+            Ok(AdditionalProperties::RefOr(Box::into_inner(place)))
+        }
     }
 }
 
 /// The schemas that a combination combines: its member of that name. Fails where there is none, or not of its kind.
 pub(crate) fn combined_from(
-    alloc: Global,
-    tree: &Value,
+    member: Option<&Value>,
     name: &'static str,
-    outcomes: Outcomes,
+    outcome: ListOutcome,
 ) -> Result<Vec<RefOr<Schema>>, ReadFault>
-    requires { documents outcomes.items ≡ map read_place (in_list true name.now (view tree.now)) }
-    ensures { Fits (field (row name.now required (list_of (ref_or schema))) (view tree.now)) (places_doc schema_doc) result (counts (documents outcomes.items)) }
+    requires { list_docs outcome ≡ all_docs (part (elements true) (found member)) }
+    ensures { (d : Data) → found member.entry ≡ get name.now d → Fits (field (row name.now required (list_of (ref_or schema))) d) (places_doc schema_doc) result (count_of_list (list_docs outcome)) }
 {
-    match tree.get(name) {
-        Some(member) => places_in_list(alloc, member, outcomes),
+    match member {
+        Some(member) => places_in_list(member, outcome),
         None => Err(ReadFault::Missing(name)),
     }
 }
 
 /// The items of an array: the member `items`. Fails where there is none, or not of its kind.
 pub(crate) fn array_items_from(
-    alloc: Global,
-    tree: &Value,
-    outcomes: Outcomes,
+    member: Option<&Value>,
+    outcome: Outcome,
 ) -> Result<ArrayItems, ReadFault>
-    requires { documents outcomes.items ≡ map read_place (in_one true (codes "items") (view tree.now)) }
-    ensures { Fits (field (row (codes "items") required array_items) (view tree.now)) array_items_doc result (counts (documents outcomes.items)) }
+    requires { outcome_doc outcome ≡ last (part (alone true) (found member)) }
+    ensures { (d : Data) → found member.entry ≡ get (codes "items") d → Fits (field (row (codes "items") required array_items) d) array_items_doc result (count_of (outcome_doc outcome)) }
 {
-    match tree.get("items") {
-        Some(member) => items_from(alloc, member, outcomes),
+    match member {
+        Some(member) => items_from(member, outcome),
         None => Err(ReadFault::Missing("items")),
     }
 }
@@ -208,14 +179,14 @@ pub(crate) fn array_items_from(
 /// The schemas of the first items: the member `prefixItems`. Fails where it is not of its kind.
 pub(crate) fn prefix_items_from(
     alloc: Global,
-    tree: &Value,
-    outcomes: Outcomes,
+    member: Option<&Value>,
+    outcome: ListOutcome,
 ) -> Result<Vec<Schema>, ReadFault>
-    requires { documents outcomes.items ≡ map read_place (in_list false (codes "prefixItems") (view tree.now)) }
-    ensures { Fits (field (row (codes "prefixItems") defaulted (list_of schema)) (view tree.now)) (list_of_docs schema_doc) result (counts (documents outcomes.items)) }
+    requires { list_docs outcome ≡ all_docs (part (elements false) (found member)) }
+    ensures { (d : Data) → found member.entry ≡ get (codes "prefixItems") d → Fits (field (row (codes "prefixItems") defaulted (list_of schema)) d) (list_of_docs schema_doc) result (count_of_list (list_docs outcome)) }
 {
-    match tree.get("prefixItems") {
-        Some(member) => schemas_in_list(alloc, member, outcomes),
+    match member {
+        Some(member) => schemas_in_list(alloc, member, outcome),
         None => Ok(Vec::new(alloc)),
     }
 }
@@ -223,14 +194,14 @@ pub(crate) fn prefix_items_from(
 /// The schemas of the properties: the member `properties`. Fails where it is not of its kind.
 pub(crate) fn properties_from(
     alloc: Global,
-    tree: &Value,
-    outcomes: Outcomes,
+    member: Option<&Value>,
+    outcome: MapOutcome,
 ) -> Result<BTreeMap<String, RefOr<Schema>>, ReadFault>
-    requires { documents outcomes.items ≡ map read_place (in_map true (codes "properties") (view tree.now)) }
-    ensures { Fits (field (row (codes "properties") defaulted (map_of (ref_or schema))) (view tree.now)) (map_of_docs (ref_or_doc schema schema_doc)) result (counts (documents outcomes.items)) }
+    requires { map_docs outcome ≡ all_entries (part (entries true) (found member)) }
+    ensures { (d : Data) → found member.entry ≡ get (codes "properties") d → Fits (field (row (codes "properties") defaulted (map_of (ref_or schema))) d) (map_of_docs (ref_or_doc schema schema_doc)) result (count_of_map (map_docs outcome)) }
 {
-    match tree.get("properties") {
-        Some(member) => places_by_name(alloc, member, outcomes),
+    match member {
+        Some(member) => places_by_name(member, outcome),
         None => Ok(BTreeMap::new(alloc)),
     }
 }
@@ -238,18 +209,18 @@ pub(crate) fn properties_from(
 /// What the other properties are: the member `additionalProperties`. Fails where it is not of its kind.
 pub(crate) fn additional_properties_from(
     alloc: Global,
-    tree: &Value,
-    outcomes: Outcomes,
+    member: Option<&Value>,
+    outcome: Outcome,
 ) -> Result<Option<Box<AdditionalProperties<Schema>>>, ReadFault>
-    requires { documents outcomes.items ≡ map read_place (in_one true (codes "additionalProperties") (view tree.now)) }
-    ensures { Fits (field (row (codes "additionalProperties") optional additional_kind) (view tree.now)) (option_of (boxed (additional_properties_doc schema_doc))) result (counts (documents outcomes.items)) }
+    requires { outcome_doc outcome ≡ last (part (alone true) (found member)) }
+    ensures { (d : Data) → found member.entry ≡ get (codes "additionalProperties") d → Fits (field (row (codes "additionalProperties") optional additional_kind) d) (option_of (boxed (additional_properties_doc schema_doc))) result (count_of (outcome_doc outcome)) }
 {
-    match tree.get("additionalProperties") {
+    match member {
         Some(member) => {
             if member.is_null() {
                 return Ok(None);
             }
-            let value = additional_from(member, outcomes)?;
+            let value = additional_from(member, outcome)?;
             Ok(Some(Box::new(alloc, value)?))
         }
         None => Ok(None),
@@ -259,18 +230,18 @@ pub(crate) fn additional_properties_from(
 /// What the names of properties are: the member `propertyNames`. Fails where it is not of its kind.
 pub(crate) fn property_names_from(
     alloc: Global,
-    tree: &Value,
-    outcomes: Outcomes,
+    member: Option<&Value>,
+    outcome: Outcome,
 ) -> Result<Option<Box<Schema>>, ReadFault>
-    requires { documents outcomes.items ≡ map read_place (in_one false (codes "propertyNames") (view tree.now)) }
-    ensures { Fits (field (row (codes "propertyNames") optional schema) (view tree.now)) (option_of (boxed schema_doc)) result (counts (documents outcomes.items)) }
+    requires { outcome_doc outcome ≡ last (part (alone false) (found member)) }
+    ensures { (d : Data) → found member.entry ≡ get (codes "propertyNames") d → Fits (field (row (codes "propertyNames") optional schema) d) (option_of (boxed schema_doc)) result (count_of (outcome_doc outcome)) }
 {
-    match tree.get("propertyNames") {
+    match member {
         Some(member) => {
             if member.is_null() {
                 return Ok(None);
             }
-            let value = only_schema(outcomes)?;
+            let value = only_schema(outcome)?;
             Ok(Some(Box::new(alloc, value)?))
         }
         None => Ok(None),
@@ -279,20 +250,18 @@ pub(crate) fn property_names_from(
 
 /// The schema of a text's content: the member `contentSchema`. Fails where it is not of its kind.
 pub(crate) fn content_schema_from(
-    alloc: Global,
-    tree: &Value,
-    outcomes: Outcomes,
+    member: Option<&Value>,
+    outcome: Outcome,
 ) -> Result<Option<Box<RefOr<Schema>>>, ReadFault>
-    requires { documents outcomes.items ≡ map read_place (of_content (view tree.now)) }
-    ensures { Fits (field (row (codes "contentSchema") optional (ref_or schema)) (view tree.now)) content_schema_doc result (counts (documents outcomes.items)) }
+    requires { outcome_doc outcome ≡ last (part (alone true) (found member)) }
+    ensures { (d : Data) → found member.entry ≡ get (codes "contentSchema") d → Fits (field (row (codes "contentSchema") optional (ref_or schema)) d) content_schema_doc result (count_of (outcome_doc outcome)) }
 {
-    match tree.get("contentSchema") {
+    match member {
         Some(member) => {
             if member.is_null() {
                 return Ok(None);
             }
-            let value = only_place(outcomes)?;
-            Ok(Some(Box::new(alloc, value)?))
+            Ok(Some(only_place(outcome)?))
         }
         None => Ok(None),
     }

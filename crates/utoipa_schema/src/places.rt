@@ -2,12 +2,28 @@
 //!
 //! A place is a tree that may be a schema. A schema has inner places at its members that hold schemas. Null and a boolean are
 //! no place at a member that holds one, since neither is a schema.
-ghost use Rattle.std.specs.Prelude.{◌≡◌, ◌≤◌, ◌++◌, [], All, IfOk, OnOk, length};
+ghost use Rattle.std.specs.Prelude.{◌≡◌, ◌≤◌, ◌++◌, [], IfOk, OnOk, length};
 ghost use Rattle.serde_json.specs.View.{view};
-ghost use Rattle.utoipa_schema.specs.Places.{places, rows, IsMarked, elements, entries, alone, at_each, in_list, in_map, in_one, of_combinations, of_array, of_object, inner, total, Walked};
+ghost use Rattle.utoipa_schema.specs.Places.{places, elements, entries, alone, part, found, data_of, of_combinations, of_array, of_object, of_each, total, Walked};
 
+use crate::inner_members::{InnerMembers, find_members};
 use serde_json::Value;
 use std::alloc::{AllocError, Global};
+
+/// How a place stands in the member that holds it.
+#[derive(Drop)]
+pub(crate) enum Standing<'a> {
+    /// It is the member.
+    Alone,
+    /// The member is a list, and it is the first element.
+    FirstInList,
+    /// The member is a list, and it comes after another element.
+    NextInList,
+    /// The member is a map, and it is the first value, with its name.
+    FirstInMap(&'a String),
+    /// The member is a map, and it comes after another value.
+    NextInMap(&'a String),
+}
 
 /// A place of a schema.
 #[derive(Drop)]
@@ -16,15 +32,8 @@ pub(crate) struct SchemaPlace<'a> {
     pub(crate) tree: &'a Value,
     /// Whether it may be a reference.
     pub(crate) may_be_reference: bool,
-}
-
-/// A row of the table of places.
-#[derive(Drop)]
-pub(crate) struct TableRow<'a> {
-    /// The place.
-    pub(crate) place: SchemaPlace<'a>,
-    /// Whether there are places in it: most have none, and nothing is looked for there again.
-    pub(crate) has_inner: bool,
+    /// How it stands in the member that holds it.
+    pub(crate) standing: Standing<'a>,
 }
 
 /// Puts each element of a list on a stack; anything else has none. Fails where memory runs out.
@@ -33,14 +42,22 @@ pub(crate) fn push_elements<'a>(
     tree: &'a Value,
     may_be_reference: bool,
 ) -> Result<(), AllocError>
-    ensures { OnOk result (places stack.new.items ≡ places stack.old.items ++ at_each may_be_reference (elements (view tree.now))) }
+    ensures { OnOk result (places stack.new.items ≡ places stack.old.items ++ elements may_be_reference (view tree.now)) }
 {
     if let Some(list) = tree.as_array() {
-        for tree in list {
+        if let Some((first, others)) = list.split_first() {
             stack.push(SchemaPlace {
-                tree,
+                tree: first,
                 may_be_reference,
+                standing: Standing::FirstInList,
             })?;
+            for tree in others {
+                stack.push(SchemaPlace {
+                    tree,
+                    may_be_reference,
+                    standing: Standing::NextInList,
+                })?;
+            }
         }
     }
     Ok(())
@@ -52,13 +69,22 @@ pub(crate) fn push_entries<'a>(
     tree: &'a Value,
     may_be_reference: bool,
 ) -> Result<(), AllocError>
-    ensures { OnOk result (places stack.new.items ≡ places stack.old.items ++ at_each may_be_reference (entries (view tree.now))) }
+    ensures { OnOk result (places stack.new.items ≡ places stack.old.items ++ entries may_be_reference (view tree.now)) }
 {
     if let Some(map) = tree.as_object() {
-        for (_name, tree) in map.iter() {
+        let mut entries = map.iter();
+        if let Some((name, first)) = entries.next() {
+            stack.push(SchemaPlace {
+                tree: first,
+                may_be_reference,
+                standing: Standing::FirstInMap(name),
+            })?;
+        }
+        for (name, tree) in entries {
             stack.push(SchemaPlace {
                 tree,
                 may_be_reference,
+                standing: Standing::NextInMap(name),
             })?;
         }
     }
@@ -71,7 +97,7 @@ pub(crate) fn push_alone<'a>(
     tree: &'a Value,
     may_be_reference: bool,
 ) -> Result<(), AllocError>
-    ensures { OnOk result (places stack.new.items ≡ places stack.old.items ++ at_each may_be_reference (alone (view tree.now))) }
+    ensures { OnOk result (places stack.new.items ≡ places stack.old.items ++ alone may_be_reference (view tree.now)) }
 {
     if tree.is_null() || tree.is_boolean() {
         return Ok(());
@@ -79,6 +105,7 @@ pub(crate) fn push_alone<'a>(
     stack.push(SchemaPlace {
         tree,
         may_be_reference,
+        standing: Standing::Alone,
     })?;
     Ok(())
 }
@@ -86,13 +113,12 @@ pub(crate) fn push_alone<'a>(
 /// Puts the places in a member that is a list on a stack. Fails where memory runs out.
 pub(crate) fn push_list<'a>(
     stack: &mut Vec<SchemaPlace<'a>>,
-    tree: &'a Value,
-    name: &'static str,
+    member: Option<&'a Value>,
     may_be_reference: bool,
 ) -> Result<(), AllocError>
-    ensures { OnOk result (places stack.new.items ≡ places stack.old.items ++ in_list may_be_reference name.now (view tree.now)) }
+    ensures { OnOk result (places stack.new.items ≡ places stack.old.items ++ part (elements may_be_reference) (found member.entry)) }
 {
-    match tree.get(name) {
+    match member {
         Some(member) => push_elements(stack, member, may_be_reference),
         None => Ok(()),
     }
@@ -101,13 +127,12 @@ pub(crate) fn push_list<'a>(
 /// Puts the places in a member that is a map on a stack. Fails where memory runs out.
 pub(crate) fn push_map<'a>(
     stack: &mut Vec<SchemaPlace<'a>>,
-    tree: &'a Value,
-    name: &'static str,
+    member: Option<&'a Value>,
     may_be_reference: bool,
 ) -> Result<(), AllocError>
-    ensures { OnOk result (places stack.new.items ≡ places stack.old.items ++ in_map may_be_reference name.now (view tree.now)) }
+    ensures { OnOk result (places stack.new.items ≡ places stack.old.items ++ part (entries may_be_reference) (found member.entry)) }
 {
-    match tree.get(name) {
+    match member {
         Some(member) => push_entries(stack, member, may_be_reference),
         None => Ok(()),
     }
@@ -116,13 +141,12 @@ pub(crate) fn push_map<'a>(
 /// Puts a member that is one place on a stack. Fails where memory runs out.
 pub(crate) fn push_one<'a>(
     stack: &mut Vec<SchemaPlace<'a>>,
-    tree: &'a Value,
-    name: &'static str,
+    member: Option<&'a Value>,
     may_be_reference: bool,
 ) -> Result<(), AllocError>
-    ensures { OnOk result (places stack.new.items ≡ places stack.old.items ++ in_one may_be_reference name.now (view tree.now)) }
+    ensures { OnOk result (places stack.new.items ≡ places stack.old.items ++ part (alone may_be_reference) (found member.entry)) }
 {
-    match tree.get(name) {
+    match member {
         Some(member) => push_alone(stack, member, may_be_reference),
         None => Ok(()),
     }
@@ -131,49 +155,52 @@ pub(crate) fn push_one<'a>(
 /// Puts the places in the combinations of a tree on a stack. Fails where memory runs out.
 fn push_combinations<'a>(
     stack: &mut Vec<SchemaPlace<'a>>,
-    tree: &'a Value,
+    members: &InnerMembers<'a>,
 ) -> Result<(), AllocError>
-    ensures { OnOk result (places stack.new.items ≡ places stack.old.items ++ of_combinations (view tree.now)) }
+    ensures { OnOk result (places stack.new.items ≡ places stack.old.items ++ of_combinations (data_of members.now)) }
 {
-    push_list(stack, tree, "oneOf", true)?;
-    push_list(stack, tree, "allOf", true)?;
-    push_list(stack, tree, "anyOf", true)?;
+    push_list(stack, members.one_of, true)?;
+    push_list(stack, members.all_of, true)?;
+    push_list(stack, members.any_of, true)?;
     Ok(())
 }
 
 /// Puts the places in the items of an array on a stack. Fails where memory runs out.
 pub(crate) fn push_of_array<'a>(
     stack: &mut Vec<SchemaPlace<'a>>,
-    tree: &'a Value,
+    members: &InnerMembers<'a>,
 ) -> Result<(), AllocError>
-    ensures { OnOk result (places stack.new.items ≡ places stack.old.items ++ of_array (view tree.now)) }
+    ensures { OnOk result (places stack.new.items ≡ places stack.old.items ++ of_array (data_of members.now)) }
 {
-    push_one(stack, tree, "items", true)?;
-    push_list(stack, tree, "prefixItems", false)?;
+    push_one(stack, members.items, true)?;
+    push_list(stack, members.prefix_items, false)?;
     Ok(())
 }
 
 /// Puts the places in the properties of an object on a stack. Fails where memory runs out.
 pub(crate) fn push_of_object<'a>(
     stack: &mut Vec<SchemaPlace<'a>>,
-    tree: &'a Value,
+    members: &InnerMembers<'a>,
 ) -> Result<(), AllocError>
-    ensures { OnOk result (places stack.new.items ≡ places stack.old.items ++ of_object (view tree.now)) }
+    ensures { OnOk result (places stack.new.items ≡ places stack.old.items ++ of_object (data_of members.now)) }
 {
-    push_map(stack, tree, "properties", true)?;
-    push_one(stack, tree, "additionalProperties", true)?;
-    push_one(stack, tree, "propertyNames", false)?;
+    push_map(stack, members.properties, true)?;
+    push_one(stack, members.additional_properties, true)?;
+    push_one(stack, members.property_names, false)?;
     Ok(())
 }
 
 /// Puts the inner places of a tree on a stack, whatever the tree turns out to be. Fails where memory runs out.
-fn push_inner<'a>(stack: &mut Vec<SchemaPlace<'a>>, tree: &'a Value) -> Result<(), AllocError>
-    ensures { OnOk result (places stack.new.items ≡ places stack.old.items ++ inner (view tree.now)) }
+fn push_inner<'a>(
+    stack: &mut Vec<SchemaPlace<'a>>,
+    members: &InnerMembers<'a>,
+) -> Result<(), AllocError>
+    ensures { OnOk result (places stack.new.items ≡ places stack.old.items ++ of_each (data_of members.now)) }
 {
-    push_combinations(stack, tree)?;
-    push_of_array(stack, tree)?;
-    push_of_object(stack, tree)?;
-    push_one(stack, tree, "contentSchema", true)?;
+    push_combinations(stack, members)?;
+    push_of_array(stack, members)?;
+    push_of_object(stack, members)?;
+    push_one(stack, members.content_schema, true)?;
     Ok(())
 }
 
@@ -182,18 +209,15 @@ fn push_inner<'a>(stack: &mut Vec<SchemaPlace<'a>>, tree: &'a Value) -> Result<(
 pub(crate) fn walk<'a>(
     alloc: Global,
     roots: Vec<SchemaPlace<'a>>,
-) -> Result<Vec<TableRow<'a>>, AllocError>
-    ensures walked { IfOk result (λ table. Walked (places roots.entry.items) (rows table.items) []) }
+) -> Result<Vec<SchemaPlace<'a>>, AllocError>
+    ensures walked { IfOk result (λ table. Walked (places roots.entry.items) (places table.items) []) }
     ensures few { IfOk result (λ table. length table.items ≤ total (places roots.entry.items)) }
-    ensures marked { IfOk result (λ table. All IsMarked table.items) }
 {
     let mut table = Vec::new(alloc);
     let mut stack = roots;
     'walk: while let Some(place) = stack.pop() {
-        let standing = stack.len();
-        push_inner(&mut stack, place.tree)?;
-        let has_inner = stack.len() > standing;
-        table.push(TableRow { place, has_inner })?;
+        push_inner(&mut stack, &find_members(place.tree))?;
+        table.push(place)?;
     }
     Ok(table)
 }

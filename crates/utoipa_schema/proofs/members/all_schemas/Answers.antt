@@ -1,36 +1,29 @@
-use Rattle.std.proofs.Common.{◌≡◌, ◌∷◌, [], Some, None, option_map, map, ap, ◌∙◌, sym, rules, length, arith}
+use Rattle.std.proofs.Common.{◌≡◌, ◌∷◌, [], map, ap, ◌∙◌, rules, length, arith}
+use Rattle.utoipa_base.specs.Docs.{own_doc, docs_of}
+use Rattle.utoipa_base.specs.Kinds.{schema}
+use Rattle.utoipa_base.specs.Refs.{ref_or_doc}
+use Rattle.utoipa_base.specs.Values.{docs_schema_count}
 use Rattle.utoipa_schema.specs.Docs.{schema_doc}
-use Rattle.utoipa_schema.specs.Outcomes.{documents, outcome_doc, own_part, all_of_list, counts}
-use Rattle.utoipa_schema.proofs.Fitting.{filled_begun, filled_step, filled_stop, filled_end, fits_refused, fits_as_well, counts_own, no_length}
+use Rattle.utoipa_schema.specs.Outcomes.{list_of_own}
+use Rattle.utoipa_schema.proofs.Fitting.{own_begun, own_step, own_end, fits_as_well, no_length}
 use Rattle.utoipa_schema.proofs.members.all_schemas.Goals as goal
 
-pub loop-outcome-init : goal.loop-outcome-init
-loop-outcome-init c = filled_begun schema_doc _ _ (search rules)
+pub loop-place-init : goal.loop-place-init
+loop-place-init c = own_begun _ _ (search rules)
 
-pub loop-outcome-preserved : goal.loop-outcome-preserved
-loop-outcome-preserved c =
+pub loop-place-preserved : goal.loop-place-preserved
+loop-place-preserved c =
+    let f = ref_or_doc schema schema_doc in
     let more = c.next.new.self.rest.items in
-    let here : c.loop-outcome.outcome-iterator.rest.items ≡ c.in-Some.outcome ∷ more = search rules in
-    let own : own_part (outcome_doc c.in-Some.outcome) ≡ Some (schema_doc c.in-Some-own_schema.schema) = sym c.own_schema.ensures ∙ ap (option_map schema_doc) c.in-Some-own_schema.is in
-    filled_step schema_doc _ _ (map own_part (documents more)) _ _ c.in-Some-own_schema.schema c.loop-outcome.invariant
-    (ap (λ os. map own_part (documents os)) here ∙ ap (λ o. o ∷ map own_part (documents more)) own) c.in_ok-push-in-Some-own_schema.ensures.items
-
-pub returns-in-None-own_schema : goal.returns-in-None-own_schema
-returns-in-None-own_schema c =
-    let start : c.into_iter-outcome-iterator.result.rest.items ≡ c.args.outcomes.items = search rules in
-    let more = c.next.new.self.rest.items in
-    let here : c.loop-outcome.outcome-iterator.rest.items ≡ c.in-Some.outcome ∷ more = search rules in
-    let own : own_part (outcome_doc c.in-Some.outcome) ≡ None = sym c.own_schema.ensures ∙ ap (option_map schema_doc) c.in-None-own_schema.is in
-    fits_refused _ _ _ _ (ap (λ os. all_of_list (map own_part (documents os))) (sym start) ∙ filled_stop schema_doc _ _ (map own_part (documents more)) _ c.loop-outcome.invariant
-    (ap (λ os. map own_part (documents os)) here ∙ ap (λ o. o ∷ map own_part (documents more)) own))
+    let here : c.loop-place.place-iterator.rest.items ≡ c.in-Some.place ∷ more = search rules in
+    let own : f c.in-Some.place ≡ own_doc (schema_doc c.in-T.schema) = ap f c.in-T.is in
+    own_step _ _ (map f more) _ _ c.in-T.schema c.loop-place.invariant (ap (map f) here ∙ ap (λ d. d ∷ map f more) own) c.in_ok-push-in-T.ensures.items
 
 pub returns : goal.returns
 returns c =
-    let start : c.into_iter-outcome-iterator.result.rest.items ≡ c.args.outcomes.items = search rules in
-    let rest = c.loop-outcome.outcome-iterator.rest in
+    let f = ref_or_doc schema schema_doc in
+    let start : c.into_iter-place-iterator.result.rest.items ≡ c.args.places.items = search rules in
+    let rest = c.loop-place.place-iterator.rest in
     let none : length rest.items ≡ 0 = omega (arith, c.in-None.ensures.steps.0) in
     let here : rest.items ≡ [] = no_length rest.items none in
-    let first = c.into_iter-outcome-iterator.result.rest.items in
-    let all : documents first ≡ documents c.args.outcomes.items = ap documents start in
-    fits_as_well _ _ _ _ _ _ (filled_end schema_doc _ _ c.loop-outcome.list (counts (documents first)) c.loop-outcome.invariant (ap (λ os. map own_part (documents os)) here) (counts_own (documents first)))
-    (ap (λ os. all_of_list (map own_part os)) all) (omega (arith, ap counts all))
+    fits_as_well _ _ _ _ _ _ (own_end _ _ c.loop-place.list c.loop-place.invariant (ap (map f) here)) (ap (λ ps. list_of_own (map f ps)) start) (omega (arith, ap (λ ps. docs_schema_count (docs_of (map f ps))) start))

@@ -1,4 +1,4 @@
-use Rattle.std.proofs.Common.{◌≡◌, None, option_map, true, false, ap, ◌∙◌, rules, arith, codes}
+use Rattle.std.proofs.Common.{sym, ◌≡◌, None, true, false, refl, ap, ◌∙◌, rules, arith, codes}
 use Rattle.serde_json.specs.Find.{get}
 use Rattle.serde_json.specs.View.{view}
 use Rattle.utoipa_base.specs.Kinds.{schema, ref_or}
@@ -7,36 +7,29 @@ use Rattle.utoipa_base.specs.Reading.{is_null}
 use Rattle.utoipa_base.specs.Views.{boxed}
 use Rattle.utoipa_base.proofs.ByRows.{null_as}
 use Rattle.utoipa_schema.specs.Docs.{schema_doc}
-use Rattle.utoipa_schema.specs.Outcomes.{counts, documents, last}
-use Rattle.utoipa_schema.specs.Places.{alone}
-use Rattle.utoipa_schema.proofs.Fitting.{null_fits, absent_fits, optional_fits, optional_fails, fits_as_well, inside, alone_read}
+use Rattle.utoipa_schema.specs.Outcomes.{outcome_doc, count_of, last}
+use Rattle.utoipa_schema.specs.Places.{alone, part, found}
+use Rattle.utoipa_schema.proofs.Fitting.{null_fits, absent_fits, optional_fits, optional_fails, fits_as_well, alone_read}
 use Rattle.utoipa_schema.proofs.members.content_schema_from.Goals as goal
 
 pub returns-then-is_null : goal.returns-then-is_null
-returns-then-is_null c =
-    let found : option_map (λ v. view v.now) c.get.result ≡ get (codes "contentSchema") (view c.args.tree.now) = search rules in
+returns-then-is_null c = λ d here.
     let none : is_null (view c.in-Some.member.now) ≡ true = search (rules, null_as) in
-    null_fits (boxed (ref_or_doc schema schema_doc)) (codes "contentSchema") (ref_or schema) (view c.args.tree.now) c.get.result c.in-Some.member _ found c.in-Some.is none
+    null_fits (boxed (ref_or_doc schema schema_doc)) (codes "contentSchema") (ref_or schema) d c.args.member c.in-Some.member _ here c.in-Some.is none
 
-pub returns-in_err-value-in-Some : goal.returns-in_err-value-in-Some
-returns-in_err-value-in-Some c =
-    let found : option_map (λ v. view v.now) c.get.result ≡ get (codes "contentSchema") (view c.args.tree.now) = search rules in
+pub returns-in_err-only_place-in-Some : goal.returns-in_err-only_place-in-Some
+returns-in_err-only_place-in-Some c = λ d here.
     let full : is_null (view c.in-Some.member.now) ≡ false = search (rules, null_as) in
-    let same = ap last (inside alone true (codes "contentSchema") (view c.args.tree.now) c.get.result c.in-Some.member _ found c.in-Some.is c.requires) ∙ alone_read (view c.in-Some.member.now) in
-    optional_fails (ref_or_doc schema schema_doc) (boxed (ref_or_doc schema schema_doc)) (codes "contentSchema") (ref_or schema) (view c.args.tree.now) c.get.result c.in-Some.member _ _ _ found c.in-Some.is full c.from_residual.ensures.1 (fits_as_well _ _ _ _ _ _ c.in_err-value-in-Some.ensures same (omega arith))
+    let same = c.requires ∙ ap (λ o. last (part (alone true) (found o))) c.in-Some.is ∙ alone_read (view c.in-Some.member.now) in
+    optional_fails (boxed (ref_or_doc schema schema_doc)) (boxed (ref_or_doc schema schema_doc)) (codes "contentSchema") (ref_or schema) d c.args.member c.in-Some.member _ _ _ here c.in-Some.is full c.from_residual.ensures.1 (fits_as_well _ _ _ _ _ _ c.in_err-only_place-in-Some.ensures same (omega arith))
 
-pub returns-in_err-new-in-Some : goal.returns-in_err-new-in-Some
-returns-in_err-new-in-Some c = record { ok = search rules; err = search rules; counted = search rules }
-
-pub returns-in_ok-new-in-Some : goal.returns-in_ok-new-in-Some
-returns-in_ok-new-in-Some c =
-    let found : option_map (λ v. view v.now) c.get.result ≡ get (codes "contentSchema") (view c.args.tree.now) = search rules in
+pub returns-in_ok-only_place-in-Some : goal.returns-in_ok-only_place-in-Some
+returns-in_ok-only_place-in-Some c = λ d here.
     let full : is_null (view c.in-Some.member.now) ≡ false = search (rules, null_as) in
-    let held : c.in_ok-new-in-Some.field-0.value ≡ c.in_ok-value-in-Some.value = search rules in
-    let same = ap last (inside alone true (codes "contentSchema") (view c.args.tree.now) c.get.result c.in-Some.member _ found c.in-Some.is c.requires) ∙ alone_read (view c.in-Some.member.now) in
-    optional_fits (ref_or_doc schema schema_doc) (boxed (ref_or_doc schema schema_doc)) (codes "contentSchema") (ref_or schema) (view c.args.tree.now) c.get.result c.in-Some.member c.in_ok-value-in-Some.value c.in_ok-new-in-Some.field-0 (counts (documents c.args.outcomes.items)) found c.in-Some.is full (ap (ref_or_doc schema schema_doc) held) (fits_as_well _ _ _ _ (counts (documents c.args.outcomes.items)) (counts (documents c.args.outcomes.items)) c.in_ok-value-in-Some.ensures same (omega arith))
+    let same = c.requires ∙ ap (λ o. last (part (alone true) (found o))) c.in-Some.is ∙ alone_read (view c.in-Some.member.now) in
+    optional_fits (boxed (ref_or_doc schema schema_doc)) (boxed (ref_or_doc schema schema_doc)) (codes "contentSchema") (ref_or schema) d c.args.member c.in-Some.member c.in_ok-only_place-in-Some.field-0 c.in_ok-only_place-in-Some.field-0 (count_of (outcome_doc c.args.outcome)) here c.in-Some.is full refl (fits_as_well _ _ _ _ (count_of (outcome_doc c.args.outcome)) (count_of (outcome_doc c.args.outcome)) c.in_ok-only_place-in-Some.ensures same (omega arith))
 
 pub returns-in-None : goal.returns-in-None
-returns-in-None c =
-    let gone : get (codes "contentSchema") (view c.args.tree.now) ≡ None = search rules in
-    absent_fits (boxed (ref_or_doc schema schema_doc)) (codes "contentSchema") (ref_or schema) (view c.args.tree.now) _ gone
+returns-in-None c = λ d here.
+    let gone : get (codes "contentSchema") d ≡ None = sym here ∙ ap found c.in-None.is in
+    absent_fits (boxed (ref_or_doc schema schema_doc)) (codes "contentSchema") (ref_or schema) d _ gone

@@ -1,11 +1,12 @@
-use Rattle.std.proofs.Common.{◌≡◌, ◌++◌, ◌∙◌, [], false, ap, map, rules}
-use Rattle.std.proofs.lemmas.List.{append-nil}
-use Rattle.serde_json.specs.View.{view}
-use Rattle.utoipa_schema.specs.Places.{read_place, inner}
+use Rattle.std.proofs.Common.{true, sym}
+use Rattle.utoipa_schema.specs.Places.{data_of}
+use Rattle.utoipa_schema.proofs.Taken.{both_taken, taken_as}
+use Rattle.utoipa_schema.proofs.Walks.{each-parts}
 use Rattle.utoipa_schema.proofs.outcomes.take_inner.Goals as goal
 
-pub returns-else-has_inner : goal.returns-else-has_inner
-returns-else-has_inner c = λ rest is.
-    let said : c.args.has_inner ≡ false = search rules in
-    let none : inner (view c.args.tree.now) ≡ [] = c.requires.marked said in
-    (c.no_outcomes.ensures _ none, is ∙ ap (λ ps. rest ++ map read_place ps) none ∙ append-nil rest)
+pub returns-clause-read : goal.returns-clause-read
+returns-clause-read c =
+    let two = both_taken _ _ _ _ _ _ _ (c.take_one-content_schema.ensures.read true) c.take_of_object-object.ensures.read in
+    let three = both_taken _ _ _ _ _ _ _ two c.take_of_array-array.ensures.read in
+    let all = both_taken _ _ _ _ _ _ _ three c.take_combinations-combinations.ensures.read in
+    taken_as _ _ _ _ _ _ (sym (each-parts (data_of c.args.members.now))) all (λ t. record { combinations = t.0; array = t.1.0; object = t.1.1.0; content_schema = t.1.1.1 })
