@@ -104,18 +104,16 @@ noted_as_found (array ds) es is sorted = cc
 noted_as_found (object ms) es is sorted =
     let same : members_view es ≡ ms = cc in
     rw (
-      first_of (codes "oneOf") es sorted, first_of (codes "allOf") es sorted, first_of (codes "anyOf") es sorted, first_of (codes "items") es sorted, first_of (codes "prefixItems") es sorted,
-      first_of (codes "properties") es sorted, first_of (codes "additionalProperties") es sorted, first_of (codes "propertyNames") es sorted, first_of (codes "contentSchema") es sorted
+      first_of (codes "oneOf") es sorted,
+      first_of (codes "allOf") es sorted,
+      first_of (codes "anyOf") es sorted,
+      first_of (codes "items") es sorted,
+      first_of (codes "prefixItems") es sorted,
+      first_of (codes "properties") es sorted,
+      first_of (codes "additionalProperties") es sorted,
+      first_of (codes "propertyNames") es sorted,
+      first_of (codes "contentSchema") es sorted,
     ) (ap (λ n. members_of (object n)) same)
-
--- nothing is found in what is no object
-pub nothing_found : (d : Data) → as_object d ≡ None → none_noted ≡ members_of d
-nothing_found null e = refl
-nothing_found (boolean b) e = refl
-nothing_found (number n) e = refl
-nothing_found (string s) e = refl
-nothing_found (array ds) e = refl
-nothing_found (object ms) e = cc
 
 -- ---- no combination without its member
 

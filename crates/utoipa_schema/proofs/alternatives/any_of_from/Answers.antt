@@ -1,4 +1,5 @@
 use Rattle.std.proofs.Common.{◌∙◌, sym, ap}
+use Rattle.serde_json.specs.View.{view}
 use Rattle.utoipa_base.specs.Kinds.{any_of_schema}
 use Rattle.utoipa_base.specs.Values.{schema_count}
 use Rattle.utoipa_base.proofs.ByRows.{table_refused, fields-first, read-no_object}
@@ -12,8 +13,8 @@ pub returns-then-not-is_object : goal.returns-then-not-is_object
 returns-then-not-is_object c = fits_refused _ _ _ _ (read-no_object any_of_schema _ (sym c.is_object.ensures ∙ c.if-not-is_object.true))
 
 pub returns-in_err-items : goal.returns-in_err-items
-returns-in_err-items c = passes_fits _ _ _ _ _ _ _ _ c.from_residual.ensures.1 (c.in_err-items.ensures _ c.requires.found) (λ h. table_refused any_of_schema _ (fields-first _ _ _ h))
+returns-in_err-items c = passes_fits _ _ _ _ _ _ _ _ c.from_residual.ensures.1 (c.in_err-items.ensures (view c.args.tree.now) c.requires.found) (λ h. table_refused any_of_schema _ (fields-first _ _ _ h))
 
 pub returns : goal.returns
-returns c = table_fits_as (places_doc schema_doc) any_of_doc c.in_ok-items.items c.assemble_any_of.result _ _ _ (c.in_ok-items.ensures _ c.requires.found) c.assemble_any_of.ensures.ok c.assemble_any_of.ensures.err
+returns c = table_fits_as (places_doc schema_doc) any_of_doc c.in_ok-items.items c.assemble_any_of.result _ _ _ (c.in_ok-items.ensures (view c.args.tree.now) c.requires.found) c.assemble_any_of.ensures.ok c.assemble_any_of.ensures.err
     (if_ok _ _ c.assemble_any_of.result c.assemble_any_of.ensures.kept (λ o k. any_of_counts o ∙ ap (λ v. schema_count (places_doc schema_doc v)) k))

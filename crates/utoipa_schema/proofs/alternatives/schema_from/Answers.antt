@@ -34,16 +34,16 @@ array_or_object_from-requires-clause-no_combination c = subst (λ o. MatchOption
 
 pub array_or_object_from-requires-clause-content : goal.array_or_object_from-requires-clause-content
 array_or_object_from-requires-clause-content c =
-    let content = fits_value content_schema_doc (field content_schema_row (view c.args.tree.now)) c.content_schema_from.result c.in-Some-2.content_schema _ (c.content_schema_from.ensures _ (ap (λ m. m.content_schema) c.requires.found)) (c.in_ok-content_schema.ensures ∙ ap Ok c.in-Some-2.is) in
+    let content = fits_value content_schema_doc (field content_schema_row (view c.args.tree.now)) c.content_schema_from.result c.in-Some-2.content_schema _ (c.content_schema_from.ensures (view c.args.tree.now) (ap (λ m. m.content_schema) c.requires.found)) (c.in_ok-content_schema.ensures ∙ ap Ok c.in-Some-2.is) in
     content.0
 
 pub returns-in-Some-2-clause-counted : goal.returns-in-Some-2-clause-counted
 returns-in-Some-2-clause-counted c =
-    let content = fits_value content_schema_doc (field content_schema_row (view c.args.tree.now)) c.content_schema_from.result c.in-Some-2.content_schema _ (c.content_schema_from.ensures _ (ap (λ m. m.content_schema) c.requires.found)) (c.in_ok-content_schema.ensures ∙ ap Ok c.in-Some-2.is) in
+    let content = fits_value content_schema_doc (field content_schema_row (view c.args.tree.now)) c.content_schema_from.result c.in-Some-2.content_schema _ (c.content_schema_from.ensures (view c.args.tree.now) (ap (λ m. m.content_schema) c.requires.found)) (c.in_ok-content_schema.ensures ∙ ap Ok c.in-Some-2.is) in
     if_ok _ _ c.array_or_object_from.result c.array_or_object_from.ensures.counted (λ o h. omega (arith, h, content.1))
 
 pub returns-in-None-clause-read : goal.returns-in-None-clause-read
 returns-in-None-clause-read c =
     let alone = subst (λ o. MatchOption o (IsNoCombination (view c.args.tree.now)) (λ place. outcome_doc (Some place) ≡ option_map own_doc (read schema (view c.args.tree.now)))) c.in_default.is c.in_ok-combination.ensures.read in
-    let none = fits_none content_schema_doc (field content_schema_row (view c.args.tree.now)) c.content_schema_from.result _ (c.content_schema_from.ensures _ (ap (λ m. m.content_schema) c.requires.found)) (c.in_ok-content_schema.ensures ∙ ap Ok c.in-None.is) in
+    let none = fits_none content_schema_doc (field content_schema_row (view c.args.tree.now)) c.content_schema_from.result _ (c.content_schema_from.ensures (view c.args.tree.now) (ap (λ m. m.content_schema) c.requires.found)) (c.in_ok-content_schema.ensures ∙ ap Ok c.in-None.is) in
     sym (ap (option_map own_doc) (no_schema (view c.args.tree.now) alone (no_array (view c.args.tree.now) none) (no_object_table (view c.args.tree.now) none)))

@@ -8,7 +8,7 @@ use Rattle.utoipa_schema.proofs.fill.fill.Goals as goal
 pub fill-init : goal.fill-init
 fill-init c =
     let none : c.new-filled.result.items ≡ [] = search rules in
-    filling_begun (places c.args.table.items) _ _ c.requires (ap all_outcomes none)
+    filling_begun (places c.args.table.items) _ _ c.requires.walked (ap all_outcomes none)
 
 pub read_place-requires-clause-found : goal.read_place-requires-clause-found
 read_place-requires-clause-found c = c.find_members-members.ensures

@@ -19,11 +19,11 @@ pub content_schema_from-requires : goal.content_schema_from-requires
 content_schema_from-requires c = (c.take_one-in_content.ensures.read true (of_object (data_of c.args.members.now)) c.requires.filled).0
 
 pub returns-in_err-content_schema : goal.returns-in_err-content_schema
-returns-in_err-content_schema c = passes_fits _ _ _ _ _ _ _ _ c.from_residual-in_err-content_schema.ensures.1 (c.in_err-content_schema.ensures _ (ap (λ m. m.content_schema) c.requires.found)) (no_object_table (view c.args.tree.now))
+returns-in_err-content_schema c = passes_fits _ _ _ _ _ _ _ _ c.from_residual-in_err-content_schema.ensures.1 (c.in_err-content_schema.ensures (view c.args.tree.now) (ap (λ m. m.content_schema) c.requires.found)) (no_object_table (view c.args.tree.now))
 
 pub returns : goal.returns
 returns c =
-    let content = c.in_ok-content_schema.ensures _ (ap (λ m. m.content_schema) c.requires.found) in
+    let content = c.in_ok-content_schema.ensures (view c.args.tree.now) (ap (λ m. m.content_schema) c.requires.found) in
     record {
       ok = c.in_ok-object.ensures.ok c.in_ok-content_schema.content_schema content.ok ∙ ap (λ x. Some (object_doc x)) (sym c.object_with_content_schema.ensures);
       err = tt;

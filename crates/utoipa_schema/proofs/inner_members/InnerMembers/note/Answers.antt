@@ -19,8 +19,13 @@ returns-else-str_eq-9 c =
     let property_names : name ≡ codes "propertyNames" → ⊥ = search rules in
     let content_schema : name ≡ codes "contentSchema" → ⊥ = search rules in
     rw (
-      passed (codes "oneOf") name d m.one_of one_of, passed (codes "allOf") name d m.all_of all_of, passed (codes "anyOf") name d m.any_of any_of, passed (codes "items") name d m.items items,
-      passed (codes "prefixItems") name d m.prefix_items prefix_items, passed (codes "properties") name d m.properties properties,
-      passed (codes "additionalProperties") name d m.additional_properties additional_properties, passed (codes "propertyNames") name d m.property_names property_names,
-      passed (codes "contentSchema") name d m.content_schema content_schema
+      passed (codes "oneOf") name d m.one_of one_of,
+      passed (codes "allOf") name d m.all_of all_of,
+      passed (codes "anyOf") name d m.any_of any_of,
+      passed (codes "items") name d m.items items,
+      passed (codes "prefixItems") name d m.prefix_items prefix_items,
+      passed (codes "properties") name d m.properties properties,
+      passed (codes "additionalProperties") name d m.additional_properties additional_properties,
+      passed (codes "propertyNames") name d m.property_names property_names,
+      passed (codes "contentSchema") name d m.content_schema content_schema,
     ) refl
