@@ -1,21 +1,23 @@
 #!/usr/bin/env python3
 """Times the command `utoipa_doc` on schemas of growing size, and prints the table of docs/PERFORMANCE.md.
 
-usage: bench/reading.py [--beside PROGRAM] [MEGABYTES..]      1 10 30 where none is given
+usage: bench/reading.py [--beside PROGRAM] [--runs N] [MEGABYTES..]      1 10 30 where none is given;
+                                                                      after `rt run < stdin` in crates/utoipa_doc
 
 Each input is one schema with many properties, made here. `schema` parses the text, looks for fractions, reads the
-tree, writes it and prints it. `server` does the first two steps alone, for no input here is a server, and so it is
-refused. Each time is that of the processor, the least of three runs; the memory is the greatest that a run held.
-With --beside, the same of another build of the program, by turns.
+tree and prints it. `server` does the first two steps alone, for no input here is a server, and so it is refused.
+Each time is that of the processor, the least of three runs or of N; the memory is the greatest that a run held.
+With --beside, the same of another build of the program, by turns, and how many percent longer this one takes: by the
+least of the runs, and by the middle one, which tells more on a machine whose speed changes while it runs.
 """
+import argparse
 import os
-import sys
+import statistics
 import tempfile
 
-from runs import best
+from runs import RUNS, by_turns, program, stop_if_lacking
 
-HERE = os.path.dirname(os.path.abspath(__file__))
-COMMAND = os.path.join(HERE, "..", "utoipa_doc")
+COMMAND = program("utoipa_doc")
 
 # Properties as services write them.
 ORDINARY = (
@@ -47,25 +49,46 @@ def write_schema(path, megabytes, properties):
         out.write("}}")
 
 
+def asked():
+    """What the words of the call ask for."""
+    words = argparse.ArgumentParser(usage="bench/reading.py [--beside PROGRAM] [--runs N] [MEGABYTES..]")
+    words.add_argument("--beside", action="append", default=[])
+    words.add_argument("--runs", type=int, default=RUNS)
+    words.add_argument("megabytes", type=int, nargs="*", default=[1, 10, 30])
+    return words.parse_args()
+
+
+def longer(seconds, others):
+    """By how many percent, told by the least of the runs and by the middle one."""
+    return [100 * (of(seconds) / of(others) - 1) for of in (min, statistics.median)]
+
+
+def row(programs, path, megabytes, runs):
+    """The cells of one input."""
+    parsed = min(seconds for seconds, _ in by_turns([([COMMAND, "server"], path, 1)], runs)[0])
+    measured = by_turns([([it, "schema"], path, 0) for it in programs], runs)
+    (whole, memory), *others = [list(zip(*it)) for it in measured]
+    cells = ["%.2f" % parsed, "%.3f" % min(whole), "%.1f" % (megabytes / min(whole)), "%.0f" % max(memory)]
+    for seconds, held in others:
+        cells += ["%.3f" % min(seconds), "%.0f" % max(held), *("%+.1f" % it for it in longer(whole, seconds))]
+    return cells
+
+
 def main():
-    words, programs = sys.argv[1:], [COMMAND]
-    if words[:1] == ["--beside"]:
-        programs.append(words[1])
-        words = words[2:]
-    sizes = [int(word) for word in words] or [1, 10, 30]
-    columns = ["parsed (s)", "parsed, read and written (s)", "MB per second", "greatest memory (MB)"]
-    beside = ["beside it: " + it for it in columns[1::2]] * (len(programs) - 1)
-    print("| Input | MB | %s |" % " | ".join(columns + beside))
-    print("|" + "---|" * (2 + len(columns + beside)))
+    call = asked()
+    programs = [COMMAND, *call.beside]
+    stop_if_lacking(programs)
+    columns = ["parsed (s)", "parsed, read and printed (s)", "MB per second", "greatest memory (MB)"]
+    for _ in call.beside:
+        columns += ["beside it (s)", "its memory (MB)", "longer than it (percent), by the least", "by the middle"]
+    print("| Input | MB | %s |" % " | ".join(columns))
+    print("|" + "---|" * (2 + len(columns)))
     with tempfile.TemporaryDirectory() as folder:
         for name, properties in (("ordinary", ORDINARY), ("tried", TRIED)):
-            for megabytes in sizes:
+            for megabytes in call.megabytes:
                 path = os.path.join(folder, "%s-%d.json" % (name, megabytes))
                 write_schema(path, megabytes, properties)
-                parsed = best([([COMMAND, "server"], path, 1)])[0][0]
-                (whole, memory), *others = best([([it, "schema"], path, 0) for it in programs])
-                cells = ["%.2f" % parsed, "%.2f" % whole, "%.1f" % (megabytes / whole), "%.0f" % memory]
-                cells += ["%.2f | %.0f" % it for it in others]
+                cells = row(programs, path, megabytes, call.runs)
                 print("| %s | %d | %s |" % (name, megabytes, " | ".join(cells)), flush=True)
 
 

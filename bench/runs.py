@@ -38,7 +38,12 @@ def measured(words, path, status):
     return used.ru_utime + used.ru_stime, used.ru_maxrss / 1024
 
 
+def by_turns(calls, times=RUNS):
+    """The seconds and the memory of each run of each call, which take turns."""
+    turns = [[measured(*call) for call in calls] for _ in range(times)]
+    return list(zip(*turns))
+
+
 def best(calls):
     """For each call the least time and the greatest memory of some runs, which take turns."""
-    runs = [[measured(*call) for call in calls] for _ in range(RUNS)]
-    return [(min(it[at][0] for it in runs), max(it[at][1] for it in runs)) for at in range(len(calls))]
+    return [(min(it[0] for it in runs), max(it[1] for it in runs)) for runs in by_turns(calls)]

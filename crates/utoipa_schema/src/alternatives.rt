@@ -177,6 +177,23 @@ fn combination_from(
     if !members.has_combination() {
         return Ok(None);
     }
+    first_combination_from(alloc, tree, members, outcomes)
+}
+
+/// The first combination that a tree with a combination's member is, or none. Fails where memory runs out.
+// Not inlined: no room is made for combinations where a tree has no member of one, as most have not.
+#[inline(never)]
+fn first_combination_from(
+    alloc: Global,
+    tree: &Value,
+    members: &InnerMembers<'_>,
+    outcomes: CombinationOutcomes,
+) -> Result<Outcome, AllocError>
+    requires found { data_of members.now ≡ members_of (view tree.now) }
+    requires inside { AreCombinations (data_of members.now) outcomes }
+    ensures read { IfOk result (λ o. MatchOption o (IsNoCombination (view tree.now)) (λ place. outcome_doc (Some place) ≡ option_map own_doc (read schema (view tree.now)))) }
+    ensures counted { IfOk result (λ o. count_of (outcome_doc o) ≤ 1 + counts_of_combinations outcomes) }
+{
     let CombinationOutcomes {
         one_of,
         all_of,

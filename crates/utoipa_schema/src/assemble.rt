@@ -116,6 +116,8 @@ pub(crate) fn assemble_any_of(
 }
 
 /// An array whose items have been read, with no content schema. With any that the tree has it is the array that the tree is.
+// Not inlined: no room is made for an array where a tree has no items, as most have not.
+#[inline(never)]
 pub(crate) fn assemble_array(
     alloc: Global,
     tree: &Value,
@@ -172,6 +174,7 @@ pub(crate) fn assemble_object(
 }
 
 /// An array with another content schema.
+#[inline(always)]
 pub(crate) fn array_with_content_schema(
     mut array: Array,
     content_schema: Option<Box<RefOr<Schema>>>,
@@ -183,6 +186,7 @@ pub(crate) fn array_with_content_schema(
 }
 
 /// An object with another content schema.
+#[inline(always)]
 pub(crate) fn object_with_content_schema(
     mut object: Object,
     content_schema: Option<Box<RefOr<Schema>>>,
