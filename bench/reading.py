@@ -4,13 +4,16 @@
 usage: bench/reading.py [--beside PROGRAM] [--runs N] [MEGABYTES..]      1 10 30 where none is given;
                                                                       after `rt run < stdin` in crates/utoipa_doc
 
-Each input is one schema with many properties, made here. `schema` parses the text, looks for fractions, reads the
-tree and prints it. `server` does the first two steps alone, for no input here is a server, and so it is refused.
-Each time is that of the processor, the least of three runs or of N; the memory is the greatest that a run held.
-With --beside, the same of another build of the program, by turns, and how many percent longer this one takes: by the
-least of the runs, and by the middle one, which tells more on a machine whose speed changes while it runs.
+Each input is one schema with many properties, made here; in the nested ones these are objects of ten properties, three
+levels deep. `schema` parses the text, looks for fractions, reads the tree and prints it. `server` does the first two steps
+alone, for no input here is a server, and so it is refused. Each time is that of the processor, the least of three runs or
+of N; the memory is the greatest that a run held. With --beside, the same of another build of the program, by turns, and how
+many percent longer this one takes: by the least of the runs; and by the middle one of all pairs of runs that took turns,
+with the interval in which it lies at 95 percent. The speed of a machine may change while it runs, for both of a pair alike.
 """
 import argparse
+import itertools
+import math
 import os
 import statistics
 import tempfile
@@ -35,16 +38,32 @@ TRIED = (
     '{"type":"array","items":false,"minItems":-1,"contentSchema":{"type":"string","contentSchema":{"type":"string"}}}',
 )
 
+# The inputs: a name, what the properties are, and how many levels of objects are around each.
+INPUTS = (
+    ("ordinary", ORDINARY, 0),
+    ("tried", TRIED, 0),
+    ("ordinary, nested", ORDINARY, 3),
+    ("tried, nested", TRIED, 3),
+)
 
-def write_schema(path, megabytes, properties):
+
+def object_of(properties, numbers, levels):
+    """One of the properties, in turn, or so many levels of objects of ten properties, and these innermost."""
+    if not levels:
+        return properties[next(numbers) % len(properties)]
+    inner = ('"q%d":%s' % (at, object_of(properties, numbers, levels - 1)) for at in range(10))
+    return '{"type":"object","properties":{%s}}' % ",".join(inner)
+
+
+def write_schema(path, megabytes, properties, levels):
     """A schema with as many properties as its size allows."""
-    size = megabytes * 1_000_000
+    size, numbers = megabytes * 1_000_000, itertools.count()
     with open(path, "w") as out:
         length = out.write('{"type":"object","properties":{')
         number = 0
         while length < size:
             comma = "," if number else ""
-            length += out.write('%s"p%07d":%s' % (comma, number, properties[number % len(properties)]))
+            length += out.write('%s"p%07d":%s' % (comma, number, object_of(properties, numbers, levels)))
             number += 1
         out.write("}}")
 
@@ -58,9 +77,18 @@ def asked():
     return words.parse_args()
 
 
+def percent(ratio):
+    return "%+.1f" % (100 * (ratio - 1))
+
+
 def longer(seconds, others):
-    """By how many percent, told by the least of the runs and by the middle one."""
-    return [100 * (of(seconds) / of(others) - 1) for of in (min, statistics.median)]
+    """By how many percent: told by the least of the runs, and by the middle one of the pairs, with its interval."""
+    pairs = sorted(own / other for own, other in zip(seconds, others))
+    # The ranks between which the middle of all pairs lies that there could be, of so many.
+    reach = 0.98 * math.sqrt(len(pairs))
+    low, high = (max(0, min(len(pairs) - 1, round(len(pairs) / 2 + it - 0.5))) for it in (-reach, reach))
+    middle = "%s (%s to %s)" % tuple(percent(it) for it in (statistics.median(pairs), pairs[low], pairs[high]))
+    return [percent(min(seconds) / min(others)), middle]
 
 
 def row(programs, path, megabytes, runs):
@@ -70,7 +98,7 @@ def row(programs, path, megabytes, runs):
     (whole, memory), *others = [list(zip(*it)) for it in measured]
     cells = ["%.2f" % parsed, "%.3f" % min(whole), "%.1f" % (megabytes / min(whole)), "%.0f" % max(memory)]
     for seconds, held in others:
-        cells += ["%.3f" % min(seconds), "%.0f" % max(held), *("%+.1f" % it for it in longer(whole, seconds))]
+        cells += ["%.3f" % min(seconds), "%.0f" % max(held), *longer(whole, seconds)]
     return cells
 
 
@@ -80,14 +108,14 @@ def main():
     stop_if_lacking(programs)
     columns = ["parsed (s)", "parsed, read and printed (s)", "MB per second", "greatest memory (MB)"]
     for _ in call.beside:
-        columns += ["beside it (s)", "its memory (MB)", "longer than it (percent), by the least", "by the middle"]
+        columns += ["beside it (s)", "its memory (MB)", "longer than it (percent), by the least", "by the pairs"]
     print("| Input | MB | %s |" % " | ".join(columns))
     print("|" + "---|" * (2 + len(columns)))
     with tempfile.TemporaryDirectory() as folder:
-        for name, properties in (("ordinary", ORDINARY), ("tried", TRIED)):
+        for name, properties, levels in INPUTS:
             for megabytes in call.megabytes:
                 path = os.path.join(folder, "%s-%d.json" % (name, megabytes))
-                write_schema(path, megabytes, properties)
+                write_schema(path, megabytes, properties, levels)
                 cells = row(programs, path, megabytes, call.runs)
                 print("| %s | %d | %s |" % (name, megabytes, " | ".join(cells)), flush=True)
 

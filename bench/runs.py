@@ -39,8 +39,11 @@ def measured(words, path, status):
 
 
 def by_turns(calls, times=RUNS):
-    """The seconds and the memory of each run of each call, which take turns."""
-    turns = [[measured(*call) for call in calls] for _ in range(times)]
+    """The seconds and the memory of each run of each call, which take turns, each second turn the other way round."""
+    turns = []
+    for turn in range(times):
+        ran = [measured(*call) for call in (calls[::-1] if turn % 2 else calls)]
+        turns.append(ran[::-1] if turn % 2 else ran)
     return list(zip(*turns))
 
 
