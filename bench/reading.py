@@ -9,7 +9,8 @@ levels deep. `schema` parses the text, looks for fractions, reads the tree and p
 alone, for no input here is a server, and so it is refused. Each time is that of the processor, the least of three runs or
 of N; the memory is the greatest that a run held. With --beside, the same of another build of the program, by turns, and how
 many percent longer this one takes: by the least of the runs; and by the middle one of all pairs of runs that took turns,
-with the interval in which it lies at 95 percent. The speed of a machine may change while it runs, for both of a pair alike.
+with the interval in which it lies at 95 percent or more, from 8 runs on. The speed of a machine may change while it runs,
+for both of a pair alike.
 """
 import argparse
 import itertools
@@ -84,10 +85,10 @@ def percent(ratio):
 def longer(seconds, others):
     """By how many percent: told by the least of the runs, and by the middle one of the pairs, with its interval."""
     pairs = sorted(own / other for own, other in zip(seconds, others))
-    # The ranks between which the middle of all pairs lies that there could be, of so many.
-    reach = 0.98 * math.sqrt(len(pairs))
-    low, high = (max(0, min(len(pairs) - 1, round(len(pairs) / 2 + it - 0.5))) for it in (-reach, reach))
-    middle = "%s (%s to %s)" % tuple(percent(it) for it in (statistics.median(pairs), pairs[low], pairs[high]))
+    # Of so many pairs, the middle of all that there could be lies between these ranks from either end.
+    rank = max(1, math.floor(len(pairs) / 2 - 0.98 * math.sqrt(len(pairs))))
+    low, high = pairs[rank - 1], pairs[-rank]
+    middle = "%s (%s to %s)" % tuple(percent(it) for it in (statistics.median(pairs), low, high))
     return [percent(min(seconds) / min(others)), middle]
 
 
