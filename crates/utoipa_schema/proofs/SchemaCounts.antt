@@ -4,7 +4,7 @@ use Rattle.serde_json.specs.Data.{Data}
 use Rattle.utoipa_base.specs.Docs.{Doc}
 use Rattle.utoipa_base.specs.Docs as docs
 use Rattle.utoipa_base.specs.Fields.{field}
-use Rattle.utoipa_base.specs.Kinds.{named, schema, array_schema, object_schema}
+use Rattle.utoipa_base.specs.Kinds.{named, array_schema, object_schema}
 use Rattle.utoipa_base.specs.Reading.{read}
 use Rattle.utoipa_base.specs.Values.{schema_count}
 use Rattle.utoipa_base.proofs.ByRows.{table_refused, fields-first}

@@ -18,7 +18,6 @@ use Rattle.utoipa_base.proofs.Places.{docs_schema_count-none, entries_schema_cou
 use Rattle.utoipa_schema.specs.Outcomes.{Outcomes, of_one, of_list, of_map, one_of_outcomes, list_of_outcomes, map_of_outcomes, count_of, count_of_list, count_of_map, outcomes_of, all_outcomes, list_docs, map_docs, grouped, counts, count_of_outcomes, all_docs, all_entries, Takes, AreEntries, with_last}
 use Rattle.utoipa_schema.specs.Places.{Place, elements, entries, entries_of}
 use Rattle.utoipa_schema.specs.declared.outcomes.Group.{Group}
-use Rattle.utoipa_schema.specs.declared.outcomes.Group.TheVariants as groups
 use Rattle.utoipa_schema.proofs.Groups.{list_grouped, map_grouped, with_last-snoc, counts-last}
 
 -- ---- where nothing was put, nothing is taken

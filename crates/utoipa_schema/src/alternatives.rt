@@ -180,7 +180,7 @@ fn combination_from(
     first_combination_from(alloc, tree, members, outcomes)
 }
 
-/// The first combination that a tree with a combination's member is, or none. Fails where memory runs out.
+/// As `combination_from`, with each combination tried whether or not a tree has a member of one.
 // Not inlined: no room is made for combinations where a tree has no member of one, as most have not.
 #[inline(never)]
 fn first_combination_from(
