@@ -22,13 +22,17 @@ pub refused : (r : Request) (w : Refusal) (input : Reading) (out : Writing)
     → (¬ IsFault (Refused w) → IfSome input.before (λ bytes. IsCause r bytes w))
     → (w ≡ Write → IfSome input.before (λ bytes. BreaksOff r bytes out))
     → (w ≡ Read → input.may_have_failed ≡ true)
+    → (w ≢ Read → input.may_have_failed ≡ input.had_failed)
+    → (w ≢ Write → out.may_have_failed ≡ out.had_failed)
     → (w ≢ Memory → w ≢ Read → IsAtEnd input.after)
     → IsServed r (Refused w) input out
-refused r w input out cause broken unread end = record {
+refused r w input out cause broken unread all_read all_written end = record {
   exact = λ n. exact_known r w input.before n (cause n);
   answered = λ e. cc;
   broken = λ e. broken (same_refusal e);
   unread = λ e. unread (same_refusal e);
+  all_read = λ q. all_read (λ e. q (ap Refused e));
+  all_written = λ q. all_written (λ e. q (ap Refused e));
   end = λ m q. end (λ e. m (ap Refused e)) (λ e. q (ap Refused e));
 }
 
@@ -36,12 +40,15 @@ answered_exactly : (r : Request) (known : Known) (out : Writing) → IfSome know
 answered_exactly r None out h = tt
 answered_exactly r (Some bytes) out (line, is, appends) = exact_done r bytes (line, is)
 
-pub answered : (r : Request) (input : Reading) (out : Writing) → IfSome input.before (λ bytes. Answers r bytes out) → IsAtEnd input.after → IsServed r Done input out
-answered r input out h end = record {
+pub answered : (r : Request) (input : Reading) (out : Writing) → IfSome input.before (λ bytes. Answers r bytes out) → IsAtEnd input.after
+    → input.may_have_failed ≡ input.had_failed → out.may_have_failed ≡ out.had_failed → IsServed r Done input out
+answered r input out h end read written = record {
   exact = λ _. answered_exactly r input.before out h;
   answered = λ _. h;
   broken = λ e. cc;
   unread = λ e. cc;
+  all_read = λ _. read;
+  all_written = λ _. written;
   end = λ _ _. end;
 }
 

@@ -1,5 +1,5 @@
 -- The lines of the refusals differ in their first eleven bytes, so a whole line names its outcome.
-use Rattle.std.proofs.Common.{◌≡◌, ◌≤◌, ◌++◌, ℕ, List, if◌then◌else◌, Some, None, codes, length, take, min, lit≤, refl, sym, ap, ◌∙◌, subst, arith}
+use Rattle.std.proofs.Common.{◌≡◌, ◌≤◌, ◌++◌, ℕ, Bool, List, if◌then◌else◌, Some, None, codes, length, take, min, lit≤, refl, sym, ap, ◌∙◌, subst, arith}
 use Rattle.std.proofs.lemmas.List.{take-take, length-take, append_cancel_left}
 use Rattle.std.specs.Str.{bytes_eq}
 use Rattle.std.specs.Io.KnownBytes.{Appends}
@@ -75,15 +75,15 @@ shown o w (Some xs) (Some ys) (n, e) s =
     let both : xs ++ take n (message_of o) ≡ xs ++ refusal_line w = sym e ∙ known_bytes s in
     named_by o w n (append_cancel_left xs _ _ both)
 
-told_message : (o : Outcome) (room : ℕ) (old new : Known) → AppendsFront old new (message_of o)
-    → (length (message_of o) ≤ room → Appends old new (message_of o)) → IsTold o (writing room old new)
-told_message o room old new front fits = record {
+told_message : (o : Outcome) (room : ℕ) (e f : Bool) (old new : Known) → AppendsFront old new (message_of o)
+    → (length (message_of o) ≤ room → Appends old new (message_of o)) → IsTold o (writing room e f old new)
+told_message o room e f old new front fits = record {
   front = front;
   whole = fits;
   shown = λ w s. shown o w old new front s;
 }
 
-pub told : (o : Outcome) (bytes : List ℕ) (room : ℕ) (old new : Known) → bytes ≡ message_of o → AppendsFront old new bytes
-    → (length bytes ≤ room → Appends old new bytes) → IsTold o (writing room old new)
-told o bytes room old new e front fits =
-    told_message o room old new (subst (λ m. AppendsFront old new m) e front) (subst (λ m. length m ≤ room → Appends old new m) e fits)
+pub told : (o : Outcome) (bytes : List ℕ) (room : ℕ) (had may : Bool) (old new : Known) → bytes ≡ message_of o → AppendsFront old new bytes
+    → (length bytes ≤ room → Appends old new bytes) → IsTold o (writing room had may old new)
+told o bytes room had may old new e front fits =
+    told_message o room had may old new (subst (λ m. AppendsFront old new m) e front) (subst (λ m. length m ≤ room → Appends old new m) e fits)

@@ -6,15 +6,19 @@ use Rattle.std.specs.Io.KnownBytes.{Appends}
 abbrev pub Known : Type 0
 Known = Option (List ℕ)
 
--- what is known of a reader: whether a read may have failed, and the bytes that it had and has left
+-- what is known of a reader: whether a read may have failed by then, before and after, and the bytes that it had and has left
 pub record Reading : Type 0 where
+  pub had_failed : Bool
   pub may_have_failed : Bool
   pub before : Known
   pub after : Known
 
--- what is known of a writer: the bytes that it had room for, and those that it held and holds
+-- what is known of a writer: the bytes that it had room for, whether a write may have failed by then, before and after, and the bytes that it
+-- held and holds
 pub record Writing : Type 0 where
   pub room : ℕ
+  pub had_failed : Bool
+  pub may_have_failed : Bool
   pub before : Known
   pub after : Known
 
@@ -31,10 +35,10 @@ abbrev pub Shows : Known → Known → List ℕ → Type 0
 Shows None new bs = ⊥
 Shows (Some xs) new bs = new ≡ Some (xs ++ bs)
 
--- a reader that may have failed or not, by its bytes before and after
-abbrev pub reading : Bool → Known → Known → Reading
-reading f b a = record { may_have_failed = f; before = b; after = a }
+-- a reader, by whether it may have failed and by its bytes, before and after
+abbrev pub reading : Bool → Bool → Known → Known → Reading
+reading e f b a = record { had_failed = e; may_have_failed = f; before = b; after = a }
 
--- a writer with so much room, by its bytes before and after
-abbrev pub writing : ℕ → Known → Known → Writing
-writing r b a = record { room = r; before = b; after = a }
+-- a writer with so much room, by whether it may have failed and by its bytes, before and after
+abbrev pub writing : ℕ → Bool → Bool → Known → Known → Writing
+writing r e f b a = record { room = r; had_failed = e; may_have_failed = f; before = b; after = a }

@@ -56,6 +56,9 @@ pub record IsServed (r : Request) (o : Outcome) (input : Reading) (out : Writing
   pub answered : o ≡ Done → IfSome input.before (λ bytes. Answers r bytes out)
   pub broken : o ≡ Refused Write → IfSome input.before (λ bytes. BreaksOff r bytes out)
   pub unread : o ≡ Refused Read → input.may_have_failed ≡ true
+  -- a fault of the reader, an interruption too, ends the run so, and no other outcome passes one over; the same of the writer
+  pub all_read : o ≢ Refused Read → input.may_have_failed ≡ input.had_failed
+  pub all_written : o ≢ Refused Write → out.may_have_failed ≡ out.had_failed
   pub end : o ≢ Refused Memory → o ≢ Refused Read → IsAtEnd input.after
 
 -- the fault writer got the outcome's message, and what it shows names the outcome

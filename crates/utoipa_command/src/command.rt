@@ -100,13 +100,16 @@ fn serve<R: Source, W: Sink>(
     out: &mut W,
 ) -> Result<(), Refusal>
     ensures answered { OnOk result (IfSome (R.remaining input.old)
-        (λ bytes. Answers (request_of command.entry) bytes (writing (W.room out.old) (W.contents out.old) (W.contents out.new)))) }
+        (λ bytes. Answers (request_of command.entry) bytes (writing (W.room out.old) (W.may_have_failed out.old) (W.may_have_failed out.new) (W.contents out.old) (W.contents out.new)))) }
     ensures cause { IfErr result (λ w. ¬ IsFault (Outcome.Refused w)
         → IfSome (R.remaining input.old) (λ bytes. IsCause (request_of command.entry) bytes w)) }
     ensures broken { IfErr result (λ w. w ≡ Refusal.Write → IfSome (R.remaining input.old)
-        (λ bytes. BreaksOff (request_of command.entry) bytes (writing (W.room out.old) (W.contents out.old) (W.contents out.new)))) }
+        (λ bytes. BreaksOff (request_of command.entry) bytes (writing (W.room out.old) (W.may_have_failed out.old) (W.may_have_failed out.new) (W.contents out.old) (W.contents out.new)))) }
     ensures unwritten { IfErr result (λ w. w ≢ Refusal.Write → out.new ≡ out.old) }
     ensures failed { IfErr result (λ w. w ≡ Refusal.Read → R.may_have_failed input.new ≡ true) }
+    ensures all_read { OnOk result (R.may_have_failed input.new ≡ R.may_have_failed input.old) }
+    ensures all_written { OnOk result (W.may_have_failed out.new ≡ W.may_have_failed out.old) }
+    ensures read_on_refusal { IfErr result (λ w. w ≢ Refusal.Read → R.may_have_failed input.new ≡ R.may_have_failed input.old) }
     ensures end { OnOk result (IsAtEnd (R.remaining input.new)) }
     ensures refused_at_end { IfErr result (λ w. w ≢ Refusal.Memory → w ≢ Refusal.Read → IsAtEnd (R.remaining input.new)) }
 {
@@ -126,8 +129,8 @@ fn perform<R: Source, W: Sink>(
     ensures unread { result ≡ Outcome.Misuse → input.new ≡ input.old }
     ensures unwritten { WritesNothing result → out.new ≡ out.old }
     ensures served { IfSome (request_of_words (map string_bytes words.now)) (λ r. IsServed r result
-        (reading (R.may_have_failed input.new) (R.remaining input.old) (R.remaining input.new))
-        (writing (W.room out.old) (W.contents out.old) (W.contents out.new))) }
+        (reading (R.may_have_failed input.old) (R.may_have_failed input.new) (R.remaining input.old) (R.remaining input.new))
+        (writing (W.room out.old) (W.may_have_failed out.old) (W.may_have_failed out.new) (W.contents out.old) (W.contents out.new))) }
 {
     let Some(command) = Command::from_words(words) else {
         return Outcome::Misuse;
@@ -141,7 +144,7 @@ fn perform<R: Source, W: Sink>(
 /// Says how a run ended, and gives the exit status.
 pub fn report<F: Sink>(outcome: Outcome, fault: &mut F) -> u8
     ensures status { result ≡ status_of outcome }
-    ensures told { IsTold outcome (writing (F.room fault.old) (F.contents fault.old) (F.contents fault.new)) }
+    ensures told { IsTold outcome (writing (F.room fault.old) (F.may_have_failed fault.old) (F.may_have_failed fault.new) (F.contents fault.old) (F.contents fault.new)) }
     ensures quiet { outcome ≡ Outcome.Done → fault.new ≡ fault.old }
 {
     // A fault of the fault writer has nowhere to be told.
@@ -168,9 +171,9 @@ pub fn run<R: Source, W: Sink, F: Sink>(
     // How it ended, each outcome exactly where it is due, and told so that the line names it.
     ensures run { (o : Outcome) × (result ≡ status_of o) × (WritesNothing o → out.new ≡ out.old)
         × IsRun (request_of_words (map string_bytes words.now)) o
-        (reading (R.may_have_failed input.new) (R.remaining input.old) (R.remaining input.new))
-        (writing (W.room out.old) (W.contents out.old) (W.contents out.new))
-        (writing (F.room fault.old) (F.contents fault.old) (F.contents fault.new)) }
+        (reading (R.may_have_failed input.old) (R.may_have_failed input.new) (R.remaining input.old) (R.remaining input.new))
+        (writing (W.room out.old) (W.may_have_failed out.old) (W.may_have_failed out.new) (W.contents out.old) (W.contents out.new))
+        (writing (F.room fault.old) (F.may_have_failed fault.old) (F.may_have_failed fault.new) (F.contents fault.old) (F.contents fault.new)) }
 {
     report(perform(alloc, words, input, out), fault)
 }

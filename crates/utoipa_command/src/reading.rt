@@ -1,5 +1,5 @@
 //! Reading all of the input.
-ghost use Rattle.std.specs.Prelude.{◌≡◌, ◌⊎◌, true, IfOk, OnOk, IfErr, IfSome};
+ghost use Rattle.std.specs.Prelude.{◌≡◌, ◌≢◌, ◌⊎◌, true, IfOk, OnOk, IfErr, IfSome};
 ghost use Rattle.std.specs.Io.KnownBytes.{IsAtEnd};
 
 use crate::refusal::Refusal;
@@ -13,6 +13,10 @@ pub fn read_all<R: Source>(alloc: Global, input: &mut R) -> Result<Vec<u8>, Refu
     ensures end { OnOk result (IsAtEnd (R.remaining input.new)) }
     ensures err { IfErr result (λ w. (w ≡ Refusal.Memory) ⊎ (w ≡ Refusal.Read)) }
     ensures failed { IfErr result (λ w. w ≡ Refusal.Read → R.may_have_failed input.new ≡ true) }
+
+    // A fault of the reader is never passed over.
+    ensures all_read { OnOk result (R.may_have_failed input.new ≡ R.may_have_failed input.old) }
+    ensures read_on_refusal { IfErr result (λ w. w ≢ Refusal.Read → R.may_have_failed input.new ≡ R.may_have_failed input.old) }
 {
     let mut text = Vec::new(alloc);
     let mut chunk = [0u8; 4096];

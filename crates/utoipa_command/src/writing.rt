@@ -17,6 +17,9 @@ pub fn write_whole<W: Sink>(out: &mut W, text: &[u8]) -> Result<(), Refusal>
     ensures front { AppendsFront (W.contents out.old) (W.contents out.new) text.now }
     ensures fits { length text.now ≤ W.room out.old → Appends (W.contents out.old) (W.contents out.new) text.now }
     ensures nothing { text.now ≡ [] → out.new ≡ out.old }
+
+    // A fault of the writer is never passed over.
+    ensures all_written { OnOk result (W.may_have_failed out.new ≡ W.may_have_failed out.old) }
 {
     let mut at = 0;
     while at < text.len() {

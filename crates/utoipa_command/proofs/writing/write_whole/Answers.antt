@@ -23,4 +23,5 @@ loop-at-preserved g c =
           let kept = c.in-Ok.ensures.taken (omega (arith, rest, c.loop-at-test.true)) (omega (arith, rest, left)) in
           omega (arith, kept.1, left);
       nothing = λ e. absurd (omega arith);
+      unfailed = c.in-Ok.ensures.kept ∙ c.loop-at.invariant.unfailed;
     }
