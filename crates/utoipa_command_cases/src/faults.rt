@@ -10,6 +10,8 @@ enum Caller {
     Reader,
     AnswerWriter,
     FaultWriter,
+    // That of the answer writer, and the first of the fault writer.
+    BothWriters,
 }
 
 /// How many calls can fail, each with the run that is due, and the run where none fails.
@@ -27,6 +29,7 @@ pub fn faults_of(alloc: Global, words: &str, text: &[u8]) -> Result<String, Allo
         Some("reading") => Caller::Reader,
         Some("writing") => Caller::AnswerWriter,
         Some("telling") => Caller::FaultWriter,
+        Some("both") => Caller::BothWriters,
         _ => return String::from_str(alloc, "no such calls"),
     };
     let words = words_of(alloc, parts.next())?;
@@ -66,6 +69,10 @@ fn run_failing(
         Caller::Reader => run_by_plans(alloc, words, text, failing, whole, whole),
         Caller::AnswerWriter => run_by_plans(alloc, words, text, whole, failing, whole),
         Caller::FaultWriter => run_by_plans(alloc, words, text, whole, whole, failing),
+        Caller::BothWriters => {
+            let untold = Plan::fails_at(1, failing.failure);
+            run_by_plans(alloc, words, text, whole, failing, untold)
+        }
     }
 }
 
@@ -75,6 +82,11 @@ fn is_due(left: &Left, whole: &Left, caller: Caller, call: u64) -> bool {
         Caller::Reader => is_unread(left),
         Caller::AnswerWriter => is_unwritten(left, whole, call),
         Caller::FaultWriter => is_untold(left, whole, call),
+        Caller::BothWriters => {
+            is_broken_off(left, whole, call)
+                && left.told.calls == 1
+                && left.told.bytes.as_slice().is_empty()
+        }
     }
 }
 
@@ -85,10 +97,14 @@ fn is_unread(left: &Left) -> bool {
         && left.told.bytes.as_slice() == b"refused: read\n".as_slice()
 }
 
-// Refused for the writer at that call, which was its last; what it took is where the answer begins.
+// Refused for the writer at that call.
 fn is_unwritten(left: &Left, whole: &Left, call: u64) -> bool {
+    is_broken_off(left, whole, call) && left.told.bytes.as_slice() == b"refused: write\n".as_slice()
+}
+
+// Refused at that call of the answer writer, which was its last; what it took is where the answer begins.
+fn is_broken_off(left: &Left, whole: &Left, call: u64) -> bool {
     left.status == 1
-        && left.told.bytes.as_slice() == b"refused: write\n".as_slice()
         && left.answer.calls == call
         && left.answer.bytes.len() as u64 + 1 == call
         && whole.answer.bytes.starts_with(left.answer.bytes.as_slice())

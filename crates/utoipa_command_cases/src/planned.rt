@@ -1,7 +1,7 @@
 //! A reader and a writer in memory that move few bytes a call, and fail at a call.
-ghost use Rattle.std.specs.Prelude.{◌≡◌, None, true, IsErr};
-ghost use Rattle.std.specs.Io.{ReadsAtMost};
-ghost use Rattle.std.specs.Io.KnownBytes.{ReadConsumes};
+ghost use Rattle.std.specs.Prelude.{◌≡◌, None, true, IsErr, OnOk};
+ghost use Rattle.std.specs.Io.{ReadsAtMost, WritesAtMost};
+ghost use Rattle.std.specs.Io.KnownBytes.{ReadConsumes, WriteAppends};
 
 use std::alloc::Global;
 use std::io;
@@ -89,6 +89,7 @@ impl Read for PlannedReader<'_> {
         ensures bound { ReadsAtMost result buf.new }
         ensures bytes { ReadConsumes None None result buf.new }
         ensures failed { IsErr result → self.new.failed ≡ true }
+        ensures kept { OnOk result (self.new.failed ≡ self.old.failed) }
     {
         self.calls = self.calls.saturating_add(1);
         match self.plan.moved(self.calls, self.text.len()) {
@@ -122,6 +123,7 @@ pub struct PlannedWriter {
     plan: Plan,
     /// The calls so far.
     pub calls: u64,
+    failed: bool,
 }
 
 impl PlannedWriter {
@@ -131,16 +133,34 @@ impl PlannedWriter {
             bytes: Vec::new(alloc),
             plan,
             calls: 0,
+            failed: false,
         }
     }
-}
 
-impl Write for PlannedWriter {
-    fn write(&mut self, buf: &[u8]) -> io::Result<usize> {
+    // Takes what the plan has this call take.
+    fn take(&mut self, buf: &[u8]) -> io::Result<usize>
+        ensures bound { WritesAtMost result buf.now }
+        ensures kept { self.new.failed ≡ self.old.failed }
+    {
         self.calls = self.calls.saturating_add(1);
         let count = self.plan.moved(self.calls, buf.len())?.min(buf.len());
         self.bytes.extend_from_slice(&buf[..count])?;
         Ok(count)
+    }
+}
+
+impl Write for PlannedWriter {
+    fn write(&mut self, buf: &[u8]) -> io::Result<usize>
+        ensures bound { WritesAtMost result buf.now }
+        ensures bytes { WriteAppends None None result buf.now }
+        ensures failed { IsErr result → self.new.failed ≡ true }
+        ensures kept { OnOk result (self.new.failed ≡ self.old.failed) }
+    {
+        let taken = self.take(buf);
+        if taken.is_err() {
+            self.failed = true;
+        }
+        taken
     }
 
     fn flush(&mut self) -> io::Result<()> {
@@ -150,6 +170,8 @@ impl Write for PlannedWriter {
 
 impl Sink for PlannedWriter {
     ghost room = { λ _. 0 };
+
+    ghost may_have_failed = { λ w. w.failed };
 
     fn take_bytes(&mut self, bytes: &[u8]) -> io::Result<usize> {
         self.write(bytes)
