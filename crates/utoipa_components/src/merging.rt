@@ -108,6 +108,7 @@ pub fn merge_components(
     all: Vec<Option<Components>>,
 ) -> Result<Option<Components>, AllocError>
     ensures merged { IfOk result (λ merged. 0 < length all.items → AreComponentsMerged (map (option_of components_doc) all.items) (option_of components_doc merged)) }
+    ensures none { all.items ≡ [] → IfOk result (λ merged. merged ≡ None) }
     ensures ordered { IfOk result (λ merged. AllByRecursion AreComponentsInOrder all.items → AreComponentsInOrder merged) }
 {
     let mut all = all.into_iter();

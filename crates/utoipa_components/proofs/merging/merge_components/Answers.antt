@@ -50,3 +50,10 @@ returns-clause-ordered c =
     let none = none_left rest.items rest.len rest.ok.0 c.in-None.ensures.steps.0 in
     let all : c.in-Some.merged ∷ c.loop-later.yielded ≡ c.args.all.items = ap (λ l. c.in-Some.merged ∷ l) (sym (append-nil c.loop-later.yielded) ∙ ap (λ l. c.loop-later.yielded ++ l) (sym none)) ∙ c.loop-later.invariant.passed in
     subst (λ cs. AllByRecursion AreComponentsInOrder cs → AreComponentsInOrder c.loop-later.merged) all c.loop-later.invariant.in_order
+
+pub returns-clause-none : goal.returns-clause-none
+returns-clause-none c =
+    let rest = c.loop-later.later-iterator.rest in
+    let none = none_left rest.items rest.len rest.ok.0 c.in-None.ensures.steps.0 in
+    let all : c.in-Some.merged ∷ c.loop-later.yielded ≡ c.args.all.items = ap (λ l. c.in-Some.merged ∷ l) (sym (append-nil c.loop-later.yielded) ∙ ap (λ l. c.loop-later.yielded ++ l) (sym none)) ∙ c.loop-later.invariant.passed in
+    λ e. let some : c.in-Some.merged ∷ c.loop-later.yielded ≡ [] = all ∙ e in cc
