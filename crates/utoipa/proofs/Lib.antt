@@ -6,3 +6,4 @@ pub mod PartsOfDocuments
 pub mod PrettyTexts
 pub mod TextReadings
 pub mod FurtherTags
+pub mod NothingAdded

@@ -3,7 +3,8 @@ ghost use Rattle.std.specs.Prelude.{◌≡◌, IfOk};
 ghost use Rattle.std.specs.Iterator.{IsFinite};
 ghost use Rattle.std.specs.Option.{ForSome};
 ghost use Rattle.utoipa_base.specs.Lists.{IsFilledIfAny};
-ghost use Rattle.utoipa.specs.OpenApi.{built_openapi, IsEmptyOpenApi};
+ghost use Rattle.utoipa_merging.specs.Merged.{AddsNothing};
+ghost use Rattle.utoipa.specs.OpenApi.{built_openapi, openapi_doc, IsEmptyOpenApi};
 
 use crate::document::OpenApi;
 use std::alloc::{AllocError, Global};
@@ -26,7 +27,9 @@ pub struct OpenApiBuilder {
 impl OpenApiBuilder {
     /// Begins with a document of OpenAPI 3.1 of the empty title and the empty version, with no paths and nothing else. Takes no memory.
     pub fn new(alloc: Global) -> OpenApiBuilder
-        ensures { IsEmptyOpenApi (built_openapi result) }
+        ensures empty { IsEmptyOpenApi (built_openapi result) }
+        // Merged into a document, it changes nothing.
+        ensures adds_nothing { AddsNothing (openapi_doc (built_openapi result)) }
     {
         let info = Info::new(String::new(alloc), String::new(alloc));
         OpenApiBuilder {

@@ -4,8 +4,8 @@
 pub mod utoipa_root {
     pub use utoipa::{
         ComposeFault, Counted, IntoParams, IntoResponses, Modify, Number, OpenApi, PartialSchema,
-        Path, ReadFault, Readings, ToResponse, ToSchema, Tree, TupleUnit, has_fraction, openapi_of,
-        operation_of, same_tree, schema_of,
+        Path, Place, ReadFault, Readings, ToResponse, ToSchema, Tree, TupleUnit, has_fraction,
+        openapi_of, operation_of, same_tree, schema_of,
     };
 }
 
