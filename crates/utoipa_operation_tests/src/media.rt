@@ -1,15 +1,17 @@
 //! Contents, encodings, headers and links, as their constructors and builders make them.
 use crate::schema_parts::place_of;
-use crate::shared::{extension, is_flag, is_number, is_text, is_written, text};
+use crate::shared::{extension, is_number, is_written, text, tree, two};
 use serde_json::Value;
 use std::process::Abort;
-use utoipa_base::{Deprecated, Ref, RefOr};
+use std::vec::IntoIter;
+use utoipa_base::{Deprecated, Readings, Ref, RefOr};
 use utoipa_leaf::example::Example;
 use utoipa_leaf::path::ParameterStyle;
 use utoipa_media::content::Content;
 use utoipa_media::encoding::Encoding;
 use utoipa_media::header::Header;
 use utoipa_media::link::Link;
+use utoipa_media::{read_content_map, read_encoding_list, read_ref_or_header};
 use utoipa_schema_parts::TypeWord;
 
 fn reference(rt: &(impl Abort + AllocGlobal), location: &str) -> Ref {
@@ -23,13 +25,6 @@ fn encoding_of(rt: &(impl Abort + AllocGlobal), content_type: &str) -> Encoding 
         .build()
 }
 
-fn is_encoding_of(rt: &impl Abort, encoding: &Encoding, expected: &str) {
-    match &encoding.content_type {
-        Some(found) => is_text(rt, found.as_str(), expected),
-        None => is_text(rt, "no type", expected),
-    }
-}
-
 #[test]
 fn a_property_takes_its_later_encoding(rt: HostRuntime) {
     let builder = Content::builder(rt.alloc());
@@ -37,29 +32,29 @@ fn a_property_takes_its_later_encoding(rt: HostRuntime) {
     let first = first.expect(&rt, "memory for an encoding");
     let later = first.encoding(text(&rt, "a"), encoding_of(&rt, "image/png"));
     let content = later.expect(&rt, "memory for an encoding").build();
-    is_number(&rt, content.encoding.len() as u64, 1);
-    match content.encoding.get("a") {
-        Some(encoding) => is_encoding_of(&rt, encoding, "image/png"),
-        None => is_text(&rt, "none", "an encoding"),
-    }
+    let expected = r#"{"encoding":{"a":{"contentType":"image/png"}}}"#;
+    is_written(&rt, content, expected);
 }
 
 #[test]
 fn items_take_the_encodings_that_were_set(rt: HostRuntime) {
-    let given = Vec::from_array(
-        rt.alloc(),
-        [encoding_of(&rt, "a/a"), encoding_of(&rt, "b/b")],
-    );
-    let given = given.expect(&rt, "memory for a list");
-    let builder = Encoding::builder(rt.alloc()).prefix_encoding(rt.alloc(), given.into_iter());
+    let given = two(&rt, encoding_of(&rt, "a/a"), encoding_of(&rt, "b/b"));
+    let builder = Encoding::builder(rt.alloc()).prefix_encoding(rt.alloc(), given);
     let builder = builder.expect(&rt, "memory for a list");
     let builder = builder.item_encoding(rt.alloc(), Some(encoding_of(&rt, "c/c")));
     let encoding = builder.expect(&rt, "memory for an encoding").build();
-    is_number(&rt, encoding.prefix_encoding.len() as u64, 2);
-    match &encoding.item_encoding {
-        Some(item) => is_encoding_of(&rt, item, "c/c"),
-        None => is_text(&rt, "none", "an encoding"),
-    }
+    let expected =
+        r#"{"itemEncoding":{"contentType":"c/c"},"prefixEncoding":[{"contentType":"a/a"},{"contentType":"b/b"}]}"#;
+    is_written(&rt, encoding, expected);
+}
+
+#[test]
+fn items_of_a_content_take_the_encodings_that_were_set(rt: HostRuntime) {
+    let given = two(&rt, encoding_of(&rt, "b/b"), encoding_of(&rt, "a/a"));
+    let builder = Content::builder(rt.alloc()).prefix_encoding(rt.alloc(), given);
+    let content = builder.expect(&rt, "memory for a list").build();
+    let expected = r#"{"prefixEncoding":[{"contentType":"b/b"},{"contentType":"a/a"}]}"#;
+    is_written(&rt, content, expected);
 }
 
 #[test]
@@ -69,15 +64,8 @@ fn a_name_holds_a_header_or_a_reference(rt: HostRuntime) {
     let builder = builder.expect(&rt, "memory for a header");
     let builder = builder.header_ref(text(&rt, "b"), reference(&rt, "#/b"));
     let encoding = builder.expect(&rt, "memory for a header").build();
-    is_number(&rt, encoding.headers.len() as u64, 2);
-    match encoding.headers.get("a") {
-        Some(RefOr::T(header)) => is_flag(&rt, header.schema.is_some(), true),
-        _ => is_text(&rt, "none", "a header"),
-    }
-    match encoding.headers.get("b") {
-        Some(RefOr::Ref(found)) => is_text(&rt, found.ref_location.as_str(), "#/b"),
-        _ => is_text(&rt, "none", "a reference"),
-    }
+    let expected = r##"{"headers":{"a":{"schema":{"type":"integer"}},"b":{"$ref":"#/b"}}}"##;
+    is_written(&rt, encoding, expected);
 }
 
 #[test]
@@ -92,8 +80,9 @@ fn a_header_holds_contents_by_their_types(rt: HostRuntime) {
     let given = given.expect(&rt, "memory for a list");
     let builder = builder.content_from_iter(given.into_iter());
     let header = builder.expect(&rt, "memory for a content").build();
-    is_number(&rt, header.content.len() as u64, 2);
-    is_flag(&rt, header.schema.is_some(), true);
+    let expected =
+        r##"{"content":{"a/a":{"schema":{"type":"string"}},"b/b":{"$ref":"#/b"}},"schema":{"type":"string"}}"##;
+    is_written(&rt, header, expected);
 }
 
 fn example_of(rt: &(impl Abort + AllocGlobal), summary: &str) -> RefOr<Example> {
@@ -101,23 +90,29 @@ fn example_of(rt: &(impl Abort + AllocGlobal), summary: &str) -> RefOr<Example> 
     RefOr::T(Example::builder(rt.alloc()).summary(summary).build())
 }
 
+// Two examples of one name.
+fn examples(rt: &(impl Abort + AllocGlobal)) -> IntoIter<(String, RefOr<Example>)> {
+    two(
+        rt,
+        (text(rt, "a"), example_of(rt, "first")),
+        (text(rt, "a"), example_of(rt, "later")),
+    )
+}
+
 #[test]
 fn a_name_takes_its_later_example(rt: HostRuntime) {
-    let given = Vec::from_array(
-        rt.alloc(),
-        [
-            (text(&rt, "a"), example_of(&rt, "first")),
-            (text(&rt, "a"), example_of(&rt, "later")),
-        ],
-    );
-    let given = given.expect(&rt, "memory for a list");
-    let builder = Content::builder(rt.alloc()).examples_from_iter(given.into_iter());
+    let builder = Content::builder(rt.alloc()).examples_from_iter(examples(&rt));
     let content = builder.expect(&rt, "memory for examples").build();
-    is_number(&rt, content.examples.len() as u64, 1);
-    match content.examples.get("a") {
-        Some(RefOr::T(example)) => is_text(&rt, example.summary.as_str(), "later"),
-        _ => is_text(&rt, "none", "an example"),
-    }
+    let expected = r#"{"examples":{"a":{"summary":"later"}}}"#;
+    is_written(&rt, content, expected);
+}
+
+#[test]
+fn a_name_in_a_header_takes_its_later_example(rt: HostRuntime) {
+    let builder = Header::builder(rt.alloc()).examples_from_iter(examples(&rt));
+    let header = builder.expect(&rt, "memory for examples").build();
+    let expected = r#"{"examples":{"a":{"summary":"later"}},"schema":{"type":"string"}}"#;
+    is_written(&rt, header, expected);
 }
 
 #[test]
@@ -170,4 +165,21 @@ fn an_encoding_is_written_as_it_was_built(rt: HostRuntime) {
     let expected =
         r#"{"allowReserved":true,"encoding":{"p":{"contentType":"a/a"}},"explode":false,"style":"form","x-a":1}"#;
     is_written(&rt, encoding, expected);
+}
+
+#[test]
+fn headers_encodings_and_contents_are_read_as_the_generic_types_read_them(rt: HostRuntime) {
+    let mut readings = Readings::new();
+    let refers = r##"{"$ref":"#/h"}"##;
+    let place = read_ref_or_header(rt.alloc(), &tree(&rt, refers), &mut readings);
+    is_written(&rt, place.expect(&rt, "a reference"), refers);
+    is_number(&rt, readings.number(), 0);
+    let encodings = r#"[{"headers":{"h":{"schema":{}}}},{}]"#;
+    let list = read_encoding_list(rt.alloc(), &tree(&rt, encodings), &mut readings);
+    is_written(&rt, list.expect(&rt, "encodings"), encodings);
+    is_number(&rt, readings.number(), 1);
+    let contents = r##"{"a":{"schema":{}},"b":{"$ref":"#/b"}}"##;
+    let map = read_content_map(rt.alloc(), &tree(&rt, contents), &mut readings);
+    is_written(&rt, map.expect(&rt, "contents"), contents);
+    is_number(&rt, readings.number(), 2);
 }

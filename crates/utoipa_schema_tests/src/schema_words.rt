@@ -31,6 +31,8 @@ fn read_back(rt: &(impl Abort + AllocGlobal), format: SchemaFormat) -> SchemaFor
 fn types_are_made_of_a_word(rt: HostRuntime) {
     let single = SchemaType::new(TypeWord::Integer);
     assert!(rt; !single.is_any_value());
+    assert!(rt; single != SchemaType::any());
+    assert!(rt; single != SchemaType::new(TypeWord::String));
     assert_eq!(rt; single, SchemaType::from(TypeWord::Integer));
     assert!(rt; SchemaType::any().is_any_value());
     assert_eq!(rt; SchemaType::default(), SchemaType::new(TypeWord::Object));

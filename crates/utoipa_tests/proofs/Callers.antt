@@ -14,13 +14,13 @@ use Rattle.utoipa_command.specs.declared.refusal.Refusal.TheVariants.{Memory, Re
 
 -- a run over bytes of which no read may have failed
 abbrev pub Ran : Outcome → List ℕ → Known → Writing → Writing → Type 0
-Ran o bytes rest out fault = IsRun (Some server) o (reading false (Some bytes) rest) out fault
+Ran o bytes rest out fault = IsRun (Some server) o (reading false false (Some bytes) rest) out fault
 
 -- where the outcome is no fault, it is the one that is due
 due : (o p : Outcome) (bytes : List ℕ) (rest : Known) (out fault : Writing) → Ran o bytes rest out fault → o ≡ p → ¬ IsFault p → IsExact server bytes p
 due o p bytes rest out fault r e n =
-    let at : IsServed server p (reading false (Some bytes) rest) out
-    = subst (λ q. IsServed server q (reading false (Some bytes) rest) out) e r.served in
+    let at : IsServed server p (reading false false (Some bytes) rest) out
+    = subst (λ q. IsServed server q (reading false false (Some bytes) rest) out) e r.served in
     at.exact n
 
 told_text_by : (o : Outcome) (bytes : List ℕ) (rest : Known) (out fault : Writing) → Ran o bytes rest out fault → o ≡ Refused Text → HasNoTree bytes
@@ -88,15 +88,15 @@ fits Empty = lit≤ tt
 fits Count = lit≤ tt
 
 -- what the fault writer shows, where it has room
-shows : (o : Outcome) (w : Refusal) (room : ℕ) (xs ys : List ℕ) → 26 ≤ room → IsTold o (writing room (Some xs) (Some ys)) → o ≡ Refused w
+shows : (o : Outcome) (w : Refusal) (room : ℕ) (xs ys : List ℕ) → 26 ≤ room → IsTold o (writing room true true (Some xs) (Some ys)) → o ≡ Refused w
     → ys ≡ xs ++ refusal_line w
 shows o w room xs ys h t e =
-    let at : IsTold (Refused w) (writing room (Some xs) (Some ys)) = subst (λ q. IsTold q (writing room (Some xs) (Some ys))) e t in
+    let at : IsTold (Refused w) (writing room true true (Some xs) (Some ys)) = subst (λ q. IsTold q (writing room true true (Some xs) (Some ys))) e t in
     let within : length (refusal_line w) ≤ 26 = fits w in
     at.whole (omega arith)
 
 -- status 1 and the line of a refusal, or that of memory
-refused : (o : Outcome) (w : Refusal) (s room : ℕ) (xs ys : List ℕ) → s ≡ status_of o → 26 ≤ room → IsTold o (writing room (Some xs) (Some ys))
+refused : (o : Outcome) (w : Refusal) (s room : ℕ) (xs ys : List ℕ) → s ≡ status_of o → 26 ≤ room → IsTold o (writing room true true (Some xs) (Some ys))
     → (o ≡ Refused w) ⊎ (o ≡ Refused Memory) → (s ≡ 1) × ((ys ≡ xs ++ refusal_line w) ⊎ (ys ≡ xs ++ refusal_line Memory))
 refused o w s room xs ys e h t (inl is) = (e ∙ ap status_of is, inl (shows o w room xs ys h t is))
 refused o w s room xs ys e h t (inr is) = (e ∙ ap status_of is, inr (shows o Memory room xs ys h t is))
@@ -109,34 +109,34 @@ status_done (Refused w) s e z = absurd (omega arith)
 
 -- a run for no word is a run of `server`
 ran : (ws : List (List ℕ)) (o : Outcome) (bytes : List ℕ) (rest : Known) (out fault : Writing) → ws ≡ []
-    → IsRun (request_of_words ws) o (reading false (Some bytes) rest) out fault → Ran o bytes rest out fault
-ran ws o bytes rest out fault e r = subst (λ v. IsRun (request_of_words v) o (reading false (Some bytes) rest) out fault) e r
+    → IsRun (request_of_words ws) o (reading false false (Some bytes) rest) out fault → Ran o bytes rest out fault
+ran ws o bytes rest out fault e r = subst (λ v. IsRun (request_of_words v) o (reading false false (Some bytes) rest) out fault) e r
 
 pub answered : (ws : List (List ℕ)) (o : Outcome) (s : ℕ) (bytes : List ℕ) (rest : Known) (room : ℕ) (xs ys : List ℕ) (fault : Writing) → ws ≡ []
-    → IsRun (request_of_words ws) o (reading false (Some bytes) rest) (writing room (Some xs) (Some ys)) fault → s ≡ status_of o → s ≡ 0
+    → IsRun (request_of_words ws) o (reading false false (Some bytes) rest) (writing room true true (Some xs) (Some ys)) fault → s ≡ status_of o → s ≡ 0
     → (line : List ℕ) × IsAnswer server bytes line × (ys ≡ xs ++ line)
 answered ws o s bytes rest room xs ys fault e r st z = (ran ws o bytes rest _ fault e r).served.answered (status_done o s st z)
 
 pub told_text : (ws : List (List ℕ)) (o : Outcome) (bytes : List ℕ) (rest : Known) (out fault : Writing) → ws ≡ []
-    → IsRun (request_of_words ws) o (reading false (Some bytes) rest) out fault → Shows fault.before fault.after (refusal_line Text) → HasNoTree bytes
+    → IsRun (request_of_words ws) o (reading false false (Some bytes) rest) out fault → Shows fault.before fault.after (refusal_line Text) → HasNoTree bytes
 told_text ws o bytes rest out fault e r s = told_text_by o bytes rest out fault (ran ws o bytes rest out fault e r) (r.told.shown Text s)
 
 pub told_fraction : (ws : List (List ℕ)) (o : Outcome) (bytes : List ℕ) (rest : Known) (out fault : Writing) → ws ≡ []
-    → IsRun (request_of_words ws) o (reading false (Some bytes) rest) out fault → Shows fault.before fault.after (refusal_line Fraction) → HasFraction bytes
+    → IsRun (request_of_words ws) o (reading false false (Some bytes) rest) out fault → Shows fault.before fault.after (refusal_line Fraction) → HasFraction bytes
 told_fraction ws o bytes rest out fault e r s = told_fraction_by o bytes rest out fault (ran ws o bytes rest out fault e r) (r.told.shown Fraction s)
 
 pub told_missing : (ws : List (List ℕ)) (o : Outcome) (bytes : List ℕ) (rest : Known) (out fault : Writing) → ws ≡ []
-    → IsRun (request_of_words ws) o (reading false (Some bytes) rest) out fault → Shows fault.before fault.after (refusal_line Missing) → HasNoDocument server bytes
+    → IsRun (request_of_words ws) o (reading false false (Some bytes) rest) out fault → Shows fault.before fault.after (refusal_line Missing) → HasNoDocument server bytes
 told_missing ws o bytes rest out fault e r s = told_missing_by o bytes rest out fault (ran ws o bytes rest out fault e r) (r.told.shown Missing s)
 
 pub no_tree : (ws : List (List ℕ)) (o : Outcome) (s : ℕ) (bytes : List ℕ) (rest : Known) (out : Writing) (room : ℕ) (xs ys : List ℕ) → ws ≡ []
-    → IsRun (request_of_words ws) o (reading false (Some bytes) rest) out (writing room (Some xs) (Some ys)) → s ≡ status_of o → 26 ≤ room → HasNoTree bytes
+    → IsRun (request_of_words ws) o (reading false false (Some bytes) rest) out (writing room true true (Some xs) (Some ys)) → s ≡ status_of o → 26 ≤ room → HasNoTree bytes
     → (s ≡ 1) × ((ys ≡ xs ++ refusal_line Text) ⊎ (ys ≡ xs ++ refusal_line Memory))
 no_tree ws o s bytes rest out room xs ys e r st h n =
-    refused o Text s room xs ys st h r.told (no_tree_by o bytes rest out (writing room (Some xs) (Some ys)) (ran ws o bytes rest out (writing room (Some xs) (Some ys)) e r) n)
+    refused o Text s room xs ys st h r.told (no_tree_by o bytes rest out (writing room true true (Some xs) (Some ys)) (ran ws o bytes rest out (writing room true true (Some xs) (Some ys)) e r) n)
 
 pub fraction : (ws : List (List ℕ)) (o : Outcome) (s : ℕ) (bytes : List ℕ) (rest : Known) (out : Writing) (room : ℕ) (xs ys : List ℕ) → ws ≡ []
-    → IsRun (request_of_words ws) o (reading false (Some bytes) rest) out (writing room (Some xs) (Some ys)) → s ≡ status_of o → 26 ≤ room → HasFraction bytes
+    → IsRun (request_of_words ws) o (reading false false (Some bytes) rest) out (writing room true true (Some xs) (Some ys)) → s ≡ status_of o → 26 ≤ room → HasFraction bytes
     → (s ≡ 1) × ((ys ≡ xs ++ refusal_line Fraction) ⊎ (ys ≡ xs ++ refusal_line Memory))
 fraction ws o s bytes rest out room xs ys e r st h f =
-    refused o Fraction s room xs ys st h r.told (fraction_by o bytes rest out (writing room (Some xs) (Some ys)) (ran ws o bytes rest out (writing room (Some xs) (Some ys)) e r) f)
+    refused o Fraction s room xs ys st h r.told (fraction_by o bytes rest out (writing room true true (Some xs) (Some ys)) (ran ws o bytes rest out (writing room true true (Some xs) (Some ys)) e r) f)

@@ -1,6 +1,6 @@
 //! What needs code to be tested of the basic types, the small objects, security and the command: builders, conversions,
 //! comparisons, copies, and memory that is refused. What can be told as an input and an output is a case of `utoipa_cases` or
-//! `utoipa_command_cases`.
+//! `utoipa_command_cases`. What callers learn of `==` is no test: `equality` is proved alone.
 #![tactic(auto)]
 
 #[cfg(test)]
@@ -9,6 +9,7 @@ mod command;
 mod compared;
 #[cfg(test)]
 mod entries;
+pub mod equality;
 #[cfg(test)]
 mod example;
 #[cfg(test)]

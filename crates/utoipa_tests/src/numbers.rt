@@ -1,5 +1,5 @@
 //! Numbers from Rust's integers and against each other, and what a flag is by default.
-use crate::shared::{is_flag, is_written};
+use crate::shared::{is_flag, is_written, read};
 use std::process::Abort;
 use utoipa_base::{Deprecated, Number, Required, Tree};
 
@@ -19,6 +19,22 @@ fn integers_become_numbers(rt: HostRuntime) {
     is(&rt, Number::from(3u32), Number::UInt(3));
     is(&rt, Number::from(4u64), Number::UInt(4));
     is(&rt, Number::from(5usize), Number::UInt(5));
+}
+
+fn is_read(rt: &(impl Abort + AllocGlobal), json: &str, expected: Number) {
+    is(rt, read(rt, json), expected);
+}
+
+#[test]
+fn a_number_is_read_as_signed_where_it_fits(rt: HostRuntime) {
+    is_read(&rt, "-9223372036854775808", Number::Int(isize::MIN));
+    is_read(&rt, "9223372036854775807", Number::Int(isize::MAX));
+    is_read(
+        &rt,
+        "9223372036854775808",
+        Number::UInt(9223372036854775808),
+    );
+    is_read(&rt, "18446744073709551615", Number::UInt(usize::MAX));
 }
 
 // A copy keeps what only the text forgets.

@@ -1,5 +1,5 @@
 //! The flows of OAuth as they are made, by what they are written as.
-use crate::shared::{extension, is_written, text};
+use crate::shared::{extension, is_text, is_written, read, text};
 use std::process::Abort;
 use utoipa_base::{Deprecated, Tree};
 use utoipa_security::security::{
@@ -20,7 +20,11 @@ fn is_scheme(rt: &(impl Abort + AllocGlobal), flow: Flow, json: &str) {
     let copy = flow.try_clone(rt.alloc()).expect(rt, "a copy");
     drop(flow);
     let scheme = OAuth2::new(rt.alloc(), Some(copy).into_iter());
-    is_written(rt, scheme.expect(rt, "a scheme"), json);
+    is_written(
+        rt,
+        SecurityScheme::OAuth2(scheme.expect(rt, "a scheme")),
+        json,
+    );
 }
 
 #[test]
@@ -53,7 +57,7 @@ fn a_flow_by_one_url_is_made(rt: HostRuntime) {
     is_scheme(
         &rt,
         Flow::Implicit(implicit),
-        r#"{"flows":{"implicit":{"authorizationUrl":"u","scopes":{},"x-a":1}}}"#,
+        r#"{"flows":{"implicit":{"authorizationUrl":"u","scopes":{},"x-a":1}},"type":"oauth2"}"#,
     );
     let password = Password::new(text(&rt, "t"), no_scopes(&rt));
     is_written(&rt, password, r#"{"scopes":{},"tokenUrl":"t"}"#);
@@ -83,13 +87,13 @@ fn a_refreshed_flow_by_one_url_stands_under_its_key(rt: HostRuntime) {
     is_scheme(
         &rt,
         Flow::Implicit(implicit),
-        r#"{"flows":{"implicit":{"authorizationUrl":"u","refreshUrl":"r","scopes":{"a":"b"}}}}"#,
+        r#"{"flows":{"implicit":{"authorizationUrl":"u","refreshUrl":"r","scopes":{"a":"b"}}},"type":"oauth2"}"#,
     );
     let password = Password::with_refresh_url(text(&rt, "t"), one_scope(&rt), text(&rt, "r"));
     is_scheme(
         &rt,
         Flow::Password(password),
-        r#"{"flows":{"password":{"refreshUrl":"r","scopes":{"a":"b"},"tokenUrl":"t"}}}"#,
+        r#"{"flows":{"password":{"refreshUrl":"r","scopes":{"a":"b"},"tokenUrl":"t"}},"type":"oauth2"}"#,
     );
     let credentials = ClientCredentials::with_refresh_url(
         text(&rt, "t"),
@@ -99,7 +103,7 @@ fn a_refreshed_flow_by_one_url_stands_under_its_key(rt: HostRuntime) {
     is_scheme(
         &rt,
         Flow::ClientCredentials(credentials),
-        r#"{"flows":{"clientCredentials":{"refreshUrl":"r","scopes":{"a":"b"},"tokenUrl":"t"}}}"#,
+        r#"{"flows":{"clientCredentials":{"refreshUrl":"r","scopes":{"a":"b"},"tokenUrl":"t"}},"type":"oauth2"}"#,
     );
 }
 
@@ -114,7 +118,7 @@ fn a_refreshed_flow_by_two_urls_stands_under_its_key(rt: HostRuntime) {
     is_scheme(
         &rt,
         Flow::AuthorizationCode(code),
-        r#"{"flows":{"authorizationCode":{"authorizationUrl":"https://localhost/authorization/token","refreshUrl":"https://localhost/refresh/token","scopes":{},"tokenUrl":"https://localhost/token/url"}}}"#,
+        r#"{"flows":{"authorizationCode":{"authorizationUrl":"https://localhost/authorization/token","refreshUrl":"https://localhost/refresh/token","scopes":{},"tokenUrl":"https://localhost/token/url"}},"type":"oauth2"}"#,
     );
     let device = DeviceAuthorization::with_refresh_url(
         text(&rt, "u"),
@@ -125,7 +129,7 @@ fn a_refreshed_flow_by_two_urls_stands_under_its_key(rt: HostRuntime) {
     is_scheme(
         &rt,
         Flow::DeviceAuthorization(device),
-        r#"{"flows":{"deviceAuthorization":{"deviceAuthorizationUrl":"u","refreshUrl":"r","scopes":{"a":"b"},"tokenUrl":"t"}}}"#,
+        r#"{"flows":{"deviceAuthorization":{"deviceAuthorizationUrl":"u","refreshUrl":"r","scopes":{"a":"b"},"tokenUrl":"t"}},"type":"oauth2"}"#,
     );
 }
 
@@ -141,6 +145,56 @@ fn a_later_flow_of_a_kind_stands(rt: HostRuntime) {
         &rt,
         scheme.expect(&rt, "a scheme"),
         r#"{"flows":{"implicit":{"authorizationUrl":"b","scopes":{}}}}"#,
+    );
+}
+
+#[test]
+fn a_flow_is_written_under_the_key_that_it_was_put_at(rt: HostRuntime) {
+    let none: Vec<Flow> = Vec::new(rt.alloc());
+    let scheme = OAuth2::new(rt.alloc(), none.into_iter());
+    let mut scheme = scheme.expect(&rt, "a scheme");
+    let implicit = Flow::Implicit(Implicit::new(text(&rt, "u"), no_scopes(&rt)));
+    let put: Result<_, _> = scheme.flows.insert(text(&rt, "password"), implicit);
+    drop(put.expect(&rt, "memory for a flow"));
+    is_written(
+        &rt,
+        scheme,
+        r#"{"flows":{"password":{"authorizationUrl":"u","scopes":{}}}}"#,
+    );
+}
+
+// The kind of the flow under the key, of the two that are written alike.
+fn kind(scheme: &SecurityScheme, key: &str) -> &'static str {
+    match scheme {
+        SecurityScheme::OAuth2(scheme) => match scheme.flows.get(key) {
+            Some(Flow::Password(_)) => "password",
+            Some(Flow::ClientCredentials(_)) => "client credentials",
+            _ => "another flow",
+        },
+        _ => "another scheme",
+    }
+}
+
+#[test]
+fn flows_that_are_written_alike_are_told_by_their_keys(rt: HostRuntime) {
+    let credentials =
+        r#"{"flows":{"clientCredentials":{"scopes":{},"tokenUrl":"t"}},"type":"oauth2"}"#;
+    let found = kind(&read(&rt, credentials), "clientCredentials");
+    is_text(&rt, found, "client credentials");
+    let password = r#"{"flows":{"password":{"scopes":{},"tokenUrl":"t"}},"type":"oauth2"}"#;
+    let found = kind(&read(&rt, password), "password");
+    is_text(&rt, found, "password");
+}
+
+#[test]
+fn a_scheme_of_a_flow_is_described(rt: HostRuntime) {
+    let password = Password::with_refresh_url(text(&rt, "t"), one_scope(&rt), text(&rt, "r"));
+    let flows = Some(Flow::Password(password)).into_iter();
+    let scheme = OAuth2::with_description(rt.alloc(), flows, text(&rt, "f"));
+    is_written(
+        &rt,
+        SecurityScheme::OAuth2(scheme.expect(&rt, "a scheme")),
+        r#"{"description":"f","flows":{"password":{"refreshUrl":"r","scopes":{"a":"b"},"tokenUrl":"t"}},"type":"oauth2"}"#,
     );
 }
 

@@ -18,6 +18,16 @@ fn a_key_in_a_header_is_made(rt: HostRuntime) {
 }
 
 #[test]
+fn a_key_in_the_query_is_made(rt: HostRuntime) {
+    let query = ApiKey::Query(ApiKeyValue::new(text(&rt, "k")));
+    is_written(
+        &rt,
+        SecurityScheme::ApiKey(query),
+        r#"{"in":"query","name":"k","type":"apiKey"}"#,
+    );
+}
+
+#[test]
 fn a_key_is_described_and_deprecated(rt: HostRuntime) {
     let mut value = ApiKeyValue::with_description(text(&rt, "k"), text(&rt, "d")).deprecated(Some(
         Deprecated::True,
@@ -74,6 +84,35 @@ fn an_http_scheme_has_its_word(rt: HostRuntime) {
     let mut bearer = Http::new(HttpAuthScheme::Bearer);
     bearer.extensions = extension(&rt);
     is_written(&rt, bearer, r#"{"scheme":"bearer","x-a":1}"#);
+}
+
+// The scheme of that name alone is written with the word.
+fn is_http(rt: &(impl Abort + AllocGlobal), scheme: HttpAuthScheme, word: &str) {
+    let expected = format!(in rt.alloc(); "{{\"scheme\":\"{word}\",\"type\":\"http\"}}");
+    let expected = expected.expect(rt, "memory for a text");
+    is_written(
+        rt,
+        SecurityScheme::Http(Http::new(scheme)),
+        expected.as_str(),
+    );
+}
+
+#[test]
+fn each_http_scheme_is_written_with_its_word(rt: HostRuntime) {
+    for (scheme, word) in [
+        (HttpAuthScheme::Basic, "basic"),
+        (HttpAuthScheme::Bearer, "bearer"),
+        (HttpAuthScheme::Digest, "digest"),
+        (HttpAuthScheme::Hoba, "hoba"),
+        (HttpAuthScheme::Mutual, "mutual"),
+        (HttpAuthScheme::Negotiate, "negotiate"),
+        (HttpAuthScheme::OAuth, "oauth"),
+        (HttpAuthScheme::ScramSha1, "scram-sha-1"),
+        (HttpAuthScheme::ScramSha256, "scram-sha-256"),
+        (HttpAuthScheme::Vapid, "vapid"),
+    ] {
+        is_http(&rt, scheme, word);
+    }
 }
 
 #[test]

@@ -1,5 +1,5 @@
 //! Servers and their variables by their builders, and extensions that are named like a member.
-use crate::shared::{came_to, extension, is_written, read, text};
+use crate::shared::{came_to, extension, is_flag, is_written, is_written_first, read, text};
 use serde_json::Value;
 use std::process::Abort;
 use utoipa_base::{Extensions, ReadFault, Tree};
@@ -106,4 +106,20 @@ fn what_is_no_extension_by_its_name_is_not_read_again_as_one(rt: HostRuntime) {
     came_to(&rt, again, "{\"url\":\"u\"}");
     let refused = read_again(&rt, extended(&rt, "description", Value::from(5u64)));
     came_to(&rt, refused, "no text stands here");
+}
+
+#[test]
+fn no_extensions_are_read_again_where_no_name_is_one(rt: HostRuntime) {
+    let other = Value::try_from_str(rt.alloc(), "v").expect(&rt, "memory for a text");
+    let pairs = [
+        (text(&rt, "url"), other),
+        (text(&rt, "y"), Value::from(1u64)),
+    ];
+    let pairs = Vec::from_array(rt.alloc(), pairs).expect(&rt, "memory for pairs");
+    let both = Extensions::from_pairs(rt.alloc(), pairs.into_iter());
+    let mut server = Server::new(text(&rt, "u"));
+    server.extensions = Some(both.expect(&rt, "memory for extensions"));
+    is_written_first(&rt, &server, "{\"url\":\"u\",\"y\":1}");
+    let again = read_again(&rt, server).expect(&rt, "a server");
+    is_flag(&rt, again.extensions.is_none(), true);
 }
