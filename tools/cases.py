@@ -9,12 +9,16 @@ Cases written by hand are in tables/*.txt of each program's folder, as crates/ut
     CALL                                     the call of the next cases, at the beginning of a line
     CALL ; CALL                              several calls, each of which is given all inputs and has to give the same answers
       INPUT                                  two spaces, then what the call is given
+      ~ INPUT                                the same, where the call runs the command, which is given INPUT damaged too
       & INPUT                                a second input, of the calls that take two
       = ANSWER                               the answer, of all inputs since the last one; `=` alone: the input itself, the first
                                              of two, after `0 ` where the call runs the command
 
 In a line, <12*TEXT> is TEXT twelve times, and <0*> nothing; <01..12*TEXT> is TEXT once for each number from 1 to 12, which stands in
 the place of each % in it, with as many digits as the first number has. The input of `run-hex` is written with Python's escapes.
+
+An input is damaged in each of these ways: it breaks off, wherever that is; a letter follows its end; one of its letters is a byte
+that is in no UTF-8. Of an object or a list that leaves no JSON text, so each is refused as that. These cases come after the tables'.
 
 The sweeps over the member tables are made here, from the tables of docs/FORMAT.md: each member of each type that is built,
 with a value that fits, absent, null, and with a value of another kind, on the smallest document of its type.
@@ -38,10 +42,10 @@ DOCUMENT_TYPES = ("Operation", "PathItem", "Callback", "Paths", "Components", "O
 
 
 class Cases:
-    """The lines of both files of a program."""
+    """The lines of both files of a program, and the calls that are given damaged inputs too, each with the input as it was."""
 
     def __init__(self):
-        self.asked, self.answered = [], []
+        self.asked, self.answered, self.damaged = [], [], []
 
     def say(self, line):
         self.asked.append(line)
@@ -90,11 +94,27 @@ def add_by_hand(cases, lines, file):
             inputs = []
         elif line.startswith("  & "):
             inputs[-1] += "\t" + repeated(line[4:])
+        elif line.startswith("  ~ "):
+            inputs.append(repeated(line[4:]))
+            cases.damaged += [(call, inputs[-1]) for call in calls]
         elif line.startswith("  "):
             given = line[2:]
             inputs.append(hexadecimal(given) if calls[0].startswith("run-hex") else repeated(given))
         else:
             calls = repeated(line).split(" ; ")
+
+
+def add_damaged(cases, call, given):
+    """The cases of a call of the command that is given an object or a list, damaged."""
+    assert call.split(" ")[0] == "run" and given.isascii() and given[0] + given[-1] in ("{}", "[]"), (call, given)
+    refused = "1 refused: text"
+    cases.say("# %s: an input of %d bytes that breaks off, that goes on, and that is no UTF-8" % (call, len(given)))
+    for text in [given[:length] for length in range(len(given))] + [given + "x"]:
+        cases.add(call, text, refused)
+    letter = re.search("[A-Za-z]", given)
+    if letter:
+        damaged = given[:letter.start()].encode() + b"\xff" + given[letter.end():].encode()
+        cases.add(call.replace("run", "run-hex", 1), damaged.hex(), refused)
 
 
 # ---- the member tables of docs/FORMAT.md
@@ -143,8 +163,8 @@ PLAIN = {
     "SchemaType": (["string", "null"], 5, None),
     "SchemaFormat": ("int32", 5, "kind"),
     "Schema": ({"type": "string"}, 5, "alternative"),
-    "ArrayItems": (False, 5, None),
-    "AdditionalProperties": ({"$ref": "#/a"}, 5, None),
+    "ArrayItems": (False, 5, "alternative"),
+    "AdditionalProperties": ({"$ref": "#/a"}, 5, "alternative"),
     "flows": ({"k": {"scopes": {}, "tokenUrl": "t"}}, 5, "kind"),
     "Responses": ({"200": {"description": "d"}}, 5, "kind"),
     "Callback": ({"e": {"summary": "s"}}, 5, "kind"),
@@ -345,6 +365,8 @@ def by_hand(program):
     for file in sorted(glob.glob(os.path.join(folder_of(program), "tables", "*.txt"))):
         with open(file, encoding="utf-8") as lines:
             add_by_hand(cases, lines.read().rstrip("\n").split("\n"), file)
+    for call, given in cases.damaged:
+        add_damaged(cases, call, given)
     return cases
 
 

@@ -5,7 +5,7 @@ usage: tools/refuse_allocations.py [WORD..]     tries the calls that hold every 
 
 A call is a program, its words and its input. It is run once as it is; then with its first request for memory refused, with its
 second, and so on, until a run has none left to refuse. Each of these has to tell what the program tells of a refusal, as the tables
-below say, or to give the answer of the first run. That answer is compared with the stored one, where there is one.
+below say, or to end as the first run does. That end is compared with the stored one, where there is one.
 
 The programs are the proved ones: `rt run <stdin` in crates/NAME builds crates/NAME/out/NAME. Requests are refused by a small library
 that is loaded before C's, so this needs Linux and a C compiler, $CC or else cc. A run takes some milliseconds.
@@ -21,7 +21,13 @@ ROOT = os.path.dirname(os.path.dirname(os.path.abspath(__file__)))
 # What a run ends with: the exit status, standard output and standard error.
 Outcome = collections.namedtuple("Outcome", "status output errors")
 
-# A call by its name: the program, its words, its input, the stored answer if there is one, and the outcomes that tell a refusal.
+
+def answered(text):
+    """How a run ends that printed the text and nothing else."""
+    return Outcome(0, text, "")
+
+
+# A call by its name: the program, its words, its input, the outcome that is stored if there is one, and those that tell a refusal.
 Call = collections.namedtuple("Call", "name program words given stored told")
 
 # ---- The calls of the command: its words, the file of its input, and the file of its answer, if one is stored.
@@ -65,16 +71,29 @@ SCHEMA = (
     '"propertyNames":{"pattern":"^a"},"type":"object"}'
 )
 
-# The same of an input that is in no file: the words, the input, and the answer.
+# The command's refusal of a tree that holds a fraction.
+FRACTION = Outcome(1, "", "refused: fraction\n")
+
+# The same of an input that is in no file: the words, the input, and the outcome.
 COMMANDS_ON_TEXTS = [
     (
         ["document"],
         '{"openapi":"3.1.x.0","info":{"title":"t","version":"1"},"paths":{"x-team":"a","/a":{}}}',
-        '{"info":{"title":"t","version":"1"},"openapi":"3.1.0","paths":{"/a":{},"x-team":"a"}}\n',
+        answered('{"info":{"title":"t","version":"1"},"openapi":"3.1.0","paths":{"/a":{},"x-team":"a"}}\n'),
     ),
-    (["schema"], SCHEMA, SCHEMA + "\n"),
-    (["merge"], "[%s,%s]" % (FIRST, SECOND), MERGED + "\n"),
-    (["nest", "/v1"], "[%s,%s]" % (FIRST, SECOND), NESTED + "\n"),
+    (["schema"], SCHEMA, answered(SCHEMA + "\n")),
+    (["schema"], '{"type":"integer","minimum":1.0}', FRACTION),
+    (["schema"], '{"example":[{"a":0.5}]}', FRACTION),
+    (
+        ["merge"],
+        '[{"openapi":"3.1.0","info":{"title":"a","version":"1"},"paths":{},"servers":[{"url":"A"}]},'
+        '{"openapi":"3.1.0","info":{"title":"b","version":"1"},"paths":{},"servers":[{"url":"A"},{"url":"B"},{"url":"B"}]}]',
+        answered(
+            '{"info":{"title":"a","version":"1"},"openapi":"3.1.0","paths":{},"servers":[{"url":"A"},{"url":"B"},{"url":"B"}]}\n'
+        ),
+    ),
+    (["merge"], "[%s,%s]" % (FIRST, SECOND), answered(MERGED + "\n")),
+    (["nest", "/v1"], "[%s,%s]" % (FIRST, SECOND), answered(NESTED + "\n")),
 ]
 
 # The command says that memory was refused, and nothing else.
@@ -162,7 +181,7 @@ def calls_of_command():
     """Each line of COMMANDS and of COMMANDS_ON_TEXTS as a call."""
     for words, given, stored in COMMANDS:
         name = "utoipa_doc %s < %s" % (" ".join(words), given)
-        yield Call(name, "utoipa_doc", words, text_of(given), stored and text_of(stored), COMMAND_TELLS)
+        yield Call(name, "utoipa_doc", words, text_of(given), stored and answered(text_of(stored)), COMMAND_TELLS)
     for words, given, stored in COMMANDS_ON_TEXTS:
         yield Call("utoipa_doc %s: %s" % (" ".join(words), given), "utoipa_doc", words, given, stored, COMMAND_TELLS)
 
@@ -185,8 +204,8 @@ def call_of_line(program, line, answer, told):
     """A line of a program's cases and its stored answer as a call."""
     # The program may have answered already where the reading of the next line is refused.
     outcomes = [Outcome(1, printed, CASES_END_WITH) for printed in ("", answer + "\n")]
-    outcomes += [Outcome(0, it + "\n", "") for it in told]
-    return Call("%s: %s" % (program, line.replace("\t", " ")), program, [], line + "\n", answer + "\n", outcomes)
+    outcomes += [answered(it + "\n") for it in told]
+    return Call("%s: %s" % (program, line.replace("\t", " ")), program, [], line + "\n", answered(answer + "\n"), outcomes)
 
 
 def library_in(folder):
@@ -216,8 +235,8 @@ def run(call, library, refused):
 def refuse_each(call, library):
     """Refuses each request of a call in turn. Returns how many were told and how many did no harm, or ends where one was told wrongly."""
     own, _ = run(call, library, 0)
-    if call.stored is not None and own.output != call.stored:
-        sys.exit("%s: with no request refused, not the stored answer: %r" % (call.name, own))
+    if call.stored is not None and own != call.stored:
+        sys.exit("%s: with no request refused, not the stored outcome: %r" % (call.name, own))
     told, harmless, number = 0, 0, 1
     while True:
         outcome, was_refused = run(call, library, number)
