@@ -1,5 +1,5 @@
 #!/usr/bin/env python3
-"""Runs the gate and tells where its time went, as the table of docs/PROOFS.md: for each crate the minutes of wall and of
+"""Runs the gate, `rt ci`, and tells where its time went, in a table: for each crate the minutes of wall and of
 the processor that its proof, its tests and its must-fail edits took.
 
 usage: tools/minutes.py [COMMAND..]      `rt ci` where none is given, run in the current folder, which is to be a clean clone
