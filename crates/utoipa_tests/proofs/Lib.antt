@@ -1,1 +1,3 @@
 mod Callers
+mod SameScopes
+mod SameTypes
