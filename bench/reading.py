@@ -10,7 +10,7 @@ alone, for no input here is a server, and so it is refused. Each time is that of
 of N; the memory is the greatest that a run held. With --beside, the same of another build of the program, by turns, and how
 many percent longer this one takes: by the least of the runs; and by the middle one of all pairs of runs that took turns,
 with the interval in which it lies at 95 percent or more, from 8 runs on. The speed of a machine may change while it runs,
-for both of a pair alike.
+for both of a pair alike; bound to one processor, as by `taskset -c 2 bench/reading.py`, the pairs differ far less.
 """
 import argparse
 import itertools
