@@ -1,8 +1,8 @@
 #!/usr/bin/env python3
 """Times the command `utoipa_doc document` on documents of growing size, and prints the tables of docs/PERFORMANCE.md.
 
-usage: bench/documents.py [MEGABYTES..]      1 10 30 where none is given; after `rt run < stdin` in crates/utoipa_doc,
-                                             crates/bench_json and crates/utoipa_document_cases
+usage: bench/documents.py [MEGABYTES..]      1 10 30 where none is given; after ./check, which builds the
+                                             programs that it runs
 
 Each input is made here, always the same: the document of services with paths, operations, parameters, bodies, responses, schemas and
 descriptions. Beside the command runs `bench_json`, which parses the same text and prints it with `serde_json` alone. Each time is

@@ -1,30 +1,26 @@
 #!/usr/bin/env python3
 """Times merging of generated documents, and prints the tables of docs/PERFORMANCE.md on merging.
 
-usage: bench/merging.py [DIVISOR]      after `rt run < stdin` in crates/utoipa_doc and crates/bench_merging; with a number, as 10, the
-                                       script is tried with so many times fewer documents
+usage: bench/merging.py [DIVISOR]      after ./build; with a number, as 10, the script is tried with so many times fewer documents
 
 Each document is made here, always the same: that of a service, with paths and schemas of its own and a tag, and with a server, a tag, a
 path, a schema and a security scheme that all have. The description of its Info takes what is left of its size. The documents of the
-last table have five tags and nothing else; in one of its halves every other tag is one of an earlier document. Each time is that of the
-processor, the least of three runs, by turns; the memory is the greatest that a run held.
+last table have five tags and nothing else; in one of its halves every other tag is one of an earlier document.
 
-The whole is what `utoipa_doc merge` takes. The steps are those of `bench_merging`, which waits for a line after each, when its clock is
-read: merging takes so little of the whole that no difference of two runs tells it.
+Each time is that of the processor for a whole run of `utoipa_doc merge`, the least of three, by turns; the memory is the greatest that a run
+held. What each step of a run takes is told by a profiler, as `valgrind --tool=callgrind`, over one of the lists.
 """
 import itertools
 import json
 import os
-import shutil
 import subprocess
 import sys
 import tempfile
-import time
 
-from runs import RUNS, best, in_another_process, program, stop_if_lacking
+from runs import best, in_another_process, program, stop_if_lacking
 from services import Service
 
-COMMAND, STEPS = (program(it) for it in ("utoipa_doc", "bench_merging"))
+COMMAND = program("utoipa_doc")
 
 # What all documents of services have.
 SERVER = {"url": "https://{region}.example.com/v1", "variables": {"region": {"default": "north", "enum": ["north", "south"]}}}
@@ -103,64 +99,28 @@ def made_list(folder, *words):
     return path
 
 
-def seconds_of(pid):
-    """The seconds of the processor that a process has taken, by its clock, whose number is made as C's `clock_getcpuclockid` does."""
-    return time.clock_gettime(~pid << 3 | 2)
+def merged(path):
+    """The milliseconds and the megabytes of a run that merges a list."""
+    ((seconds, memory),) = best([([COMMAND, "merge"], path, 0)])
+    return 1000 * seconds, memory
 
 
-def stepped(words, path):
-    """The seconds that each step of a run takes: to parse, to read, to merge and to print."""
-    ran = subprocess.Popen([STEPS, *words], stdin=subprocess.PIPE, stdout=subprocess.PIPE)
-    with open(path, "rb") as text:
-        shutil.copyfileobj(text, ran.stdin)
-    clock = []
-    for done in ("listed", "parsed", "read", "merged", "printed"):
-        ran.stdin.flush()
-        if ran.stdout.readline() != done.encode() + b"\n":
-            sys.exit("%s has not %s" % (" ".join(ran.args), done))
-        clock.append(seconds_of(ran.pid))
-        ran.stdin.write(b"\n")
-    ran.communicate()
-    if ran.returncode:
-        sys.exit("%s ended with status %d" % (" ".join(ran.args), ran.returncode))
-    return [after - before for before, after in zip(clock, clock[1:])]
-
-
-def best_steps(path, *calls):
-    """For each call the milliseconds of each step, the least of some runs, which take turns."""
-    runs = [[stepped(words, path) for words in calls] for _ in range(RUNS)]
-    return [[1000 * min(steps) for steps in zip(*(it[at] for it in runs))] for at in range(len(calls))]
-
-
-def whole_row(path, count):
-    ((whole, memory),) = best([([COMMAND, "merge"], path, 0)])
-    (steps,) = best_steps(path, [])
-    megabytes = os.path.getsize(path) / 1e6
-    return "| %d | %.1f | %.1f | %.1f | %.1f | %.1f | %.0f | %.1f | %.0f |" % (count, megabytes, *steps, 1000 * whole, megabytes / whole, memory)
-
-
-def growth_row(path, count):
-    at_once, by_pairs = best_steps(path, [], ["pairs"])
-    return "| %d | %.1f | %.1f | %.1f |" % (count, os.path.getsize(path) / 1e6, at_once[2], by_pairs[2])
+def service_row(path, count):
+    megabytes, (milliseconds, memory) = os.path.getsize(path) / 1e6, merged(path)
+    return "| %d | %.1f | %.1f | %.1f | %.0f |" % (count, megabytes, milliseconds, 1000 * megabytes / milliseconds, memory)
 
 
 def main():
-    stop_if_lacking((COMMAND, STEPS))
+    stop_if_lacking((COMMAND,))
     divisor = int(sys.argv[1]) if sys.argv[1:] else 1
     with tempfile.TemporaryDirectory() as folder:
-        print("| Documents | MB | parsed (ms) | read | merged | printed | in all | MB per second | memory (MB) |\n|" + "---|" * 9)
-        for count, size in ((13, 400_000 // 13), (200 // divisor, 10_000), (2_000 // divisor, 10_000)):
-            print(whole_row(made_list(folder, service_document, count, size), count), flush=True)
-        print("\n| Documents | MB | merged all at once (ms) | merged pair by pair |\n|" + "---|" * 4)
-        for count in (250 // divisor, 500 // divisor, 1_000 // divisor, 2_000 // divisor):
-            print(growth_row(made_list(folder, service_document, count, 10_000), count), flush=True)
-        print("\n| Documents | tags | read (ms) | merged | half of them equal: read | merged |\n|" + "---|" * 6)
+        print("| Documents | MB | in all (ms) | MB per second | memory (MB) |\n|" + "---|" * 5)
+        for count, size in ((13, 400_000 // 13), *((it // divisor, 10_000) for it in (200, 250, 500, 1_000, 2_000))):
+            print(service_row(made_list(folder, service_document, count, size), count), flush=True)
+        print("\n| Documents | tags | in all (ms) | half of them equal |\n|" + "---|" * 4)
         for count in (1_000 // divisor, 2_000 // divisor, 4_000 // divisor):
-            cells = []
-            for repeats in (False, True):
-                ((_, read, merged, _),) = best_steps(made_list(folder, tags_document, count, repeats), [])
-                cells += [read, merged]
-            print("| %d | %d | %.1f | %.1f | %.1f | %.1f |" % (count, 5 * count, *cells), flush=True)
+            apart, equal = (merged(made_list(folder, tags_document, count, repeats))[0] for repeats in (False, True))
+            print("| %d | %d | %.1f | %.1f |" % (count, 5 * count, apart, equal), flush=True)
 
 
 if __name__ == "__main__":

@@ -2,7 +2,7 @@
 """Times the command `utoipa_doc` on schemas of growing size, and prints the table of docs/PERFORMANCE.md.
 
 usage: bench/reading.py [--beside PROGRAM] [--runs N] [MEGABYTES..]      1 10 30 where none is given;
-                                                                      after `rt run < stdin` in crates/utoipa_doc
+                                                                      after ./build
 
 Each input is one schema with many properties, made here; in the nested ones these are objects of ten properties, three
 levels deep. `schema` parses the text, looks for fractions, reads the tree and prints it. `server` does the first two steps

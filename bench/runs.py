@@ -16,7 +16,7 @@ def program(name):
 def stop_if_lacking(programs):
     lacking = [os.path.basename(it) for it in programs if not os.path.isfile(it)]
     if lacking:
-        sys.exit("to be built first, by `rt run < stdin` in its crate: " + ", ".join(lacking))
+        sys.exit("to be built first, by ./build or ./check: " + ", ".join(lacking))
 
 
 def in_another_process(make, *words):

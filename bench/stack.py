@@ -1,7 +1,7 @@
 #!/usr/bin/env python3
 """Finds the least stack in which schemas, encodings, headers and callbacks as deep as a text can be are read, copied, written and dropped.
 
-usage: bench/stack.py      after `rt run < stdin` in crates/utoipa_cases and in crates/utoipa_document_cases
+usage: bench/stack.py      after ./check
 
 A text nests 127 objects and lists. Each input nests schemas so deep in one of the nine members that hold schemas, encodings in one of
 the three that hold encodings, headers in encodings in contents of headers, or operations in callbacks of operations. The command
@@ -86,7 +86,7 @@ def case_stack(program, type, text):
 def main():
     for program in (CASES, DOCUMENT_CASES):
         if not os.path.isfile(program):
-            sys.exit("no program of cases: run `rt run < stdin` in crates/%s first" % os.path.basename(program))
+            sys.exit("no program of cases: ./check builds %s" % os.path.basename(program))
     print("| Member | Levels | Read, written and dropped (KiB) | Copied too |")
     print("|---|---|---|---|")
     for name, begin, end, levels in MEMBERS:

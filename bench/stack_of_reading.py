@@ -1,7 +1,7 @@
 #!/usr/bin/env python3
 """Finds how much stack reading a schema takes by itself, at three depths in each of the nine members that hold schemas.
 
-usage: bench/stack_of_reading.py      after `rt run < stdin` in crates/utoipa_doc; needs Linux and gdb
+usage: bench/stack_of_reading.py      after ./build; needs Linux and gdb
 
 The command `utoipa_doc schema` is stopped where it begins to read the tree of its input, and all stack below is filled with a
 pattern. Where reading returns, what is no longer the pattern is what it took. Each figure is in bytes.

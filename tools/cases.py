@@ -37,7 +37,7 @@ import sys
 ROOT = os.path.dirname(os.path.dirname(os.path.abspath(__file__)))
 
 # The programs of cases. Of the types of docs/FORMAT.md, the second knows those of DOCUMENT_TYPES, and the first all others.
-PROGRAMS = ("utoipa_cases", "utoipa_compose_cases", "utoipa_document_cases", "utoipa_command_cases")
+PROGRAMS = ("utoipa_cases", "utoipa_document_cases")
 DOCUMENT_TYPES = ("Operation", "PathItem", "Callback", "Paths", "Components", "OpenApi")
 
 

@@ -7,14 +7,16 @@ A call is a program, its words and its input. It is run once as it is; then with
 second, and so on, until a run has none left to refuse. Each of these has to tell what the program tells of a refusal, as the tables
 below say, or to end as the first run does. That end is compared with the stored one, where there is one.
 
-The programs are the proved ones: `rt run <stdin` in crates/NAME builds crates/NAME/out/NAME. Requests are refused by a small library
-that is loaded before C's, so this needs Linux and a C compiler, $CC or else cc. A run takes some milliseconds.
+The programs are the proved ones that the gate builds, crates/NAME/out/NAME. Requests are refused by a small library that is loaded
+before C's, so this needs Linux and a C compiler, $CC or else cc. A run takes some milliseconds, and as many run at a time as there are
+processors.
 """
 import collections
 import os
 import subprocess
 import sys
 import tempfile
+from concurrent.futures import ThreadPoolExecutor
 
 ROOT = os.path.dirname(os.path.dirname(os.path.abspath(__file__)))
 
@@ -102,7 +104,7 @@ COMMAND_TELLS = [Outcome(1, "", "refused: memory\n")]
 # ---- The calls of the programs of cases: lines of crates/PROGRAM/stdin, by how they begin. Those of the command's runs are not tried:
 # the command itself is, above.
 
-CASE_PROGRAMS = ("utoipa_cases", "utoipa_compose_cases", "utoipa_document_cases")
+CASE_PROGRAMS = ("utoipa_cases", "utoipa_document_cases")
 
 # Longer lines are not tried: those that merge 200 documents make thousands of requests, and each request takes a run of its own.
 LONGEST = 10000
@@ -232,16 +234,20 @@ def run(call, library, refused):
         return outcome, pipe.read() != b""
 
 
+class ToldWrongly(Exception):
+    """A run that told a refusal otherwise than it has to."""
+
+
 def refuse_each(call, library):
-    """Refuses each request of a call in turn. Returns how many were told and how many did no harm, or ends where one was told wrongly."""
+    """Refuses each request of a call in turn. Returns how many were told and how many did no harm."""
     own, _ = run(call, library, 0)
     if call.stored is not None and own != call.stored:
-        sys.exit("%s: with no request refused, not the stored outcome: %r" % (call.name, own))
+        raise ToldWrongly("%s: with no request refused, not the stored outcome: %r" % (call.name, own))
     told, harmless, number = 0, 0, 1
     while True:
         outcome, was_refused = run(call, library, number)
         if outcome != own and not (was_refused and outcome in call.told):
-            sys.exit("%s: request %d was refused, and told wrongly: %r" % (call.name, number, outcome))
+            raise ToldWrongly("%s: request %d was refused, and told wrongly: %r" % (call.name, number, outcome))
         if not was_refused:
             return told, harmless
         told, harmless = (told, harmless + 1) if outcome == own else (told + 1, harmless)
@@ -255,14 +261,19 @@ def main():
         sys.exit("no call holds these words")
     lacking = sorted({it.program for it in calls if not os.path.exists(os.path.join(ROOT, "crates", it.program, "out", it.program))})
     if lacking:
-        sys.exit("to be built first, by `rt run <stdin` in crates/NAME: " + ", ".join(lacking))
+        sys.exit("to be built first, by ./check: " + ", ".join(lacking))
     total = 0
-    with tempfile.TemporaryDirectory() as folder:
+    with tempfile.TemporaryDirectory() as folder, ThreadPoolExecutor(os.cpu_count()) as pool:
         library = library_in(folder)
-        for call in calls:
-            told, harmless = refuse_each(call, library)
-            total += told + harmless
-            print("%d told, %d without harm: %.150s" % (told, harmless, call.name), flush=True)
+        runs = [(call, pool.submit(refuse_each, call, library)) for call in calls]
+        try:
+            for call, ran in runs:
+                told, harmless = ran.result()
+                total += told + harmless
+                print("%d told, %d without harm: %.150s" % (told, harmless, call.name), flush=True)
+        except ToldWrongly as wrong:
+            pool.shutdown(cancel_futures=True)
+            sys.exit(str(wrong))
     print("%d calls, %d requests refused, none told wrongly" % (len(calls), total))
 
 

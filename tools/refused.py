@@ -3,6 +3,7 @@
 
 usage: tools/refused.py CRATE [EDIT..]     each EDIT a file of crates/CRATE/wrong-bodies or of crates/CRATE/must-fail;
                                            with none, each file of crates/CRATE/wrong-bodies
+       tools/refused.py --apply            tries nothing: tells of each edit of each crate whether its lines stand in the source
 
 An edit is written as those that `rt ci` tries. It is one wrong body, refused where the prover refuses a function that it
 changes, or, where it changes the text of a type, any function. One called each_.. changes many functions, each line of it
@@ -186,9 +187,26 @@ def check_with(crate, bodies):
     return found, said
 
 
+def all_apply():
+    """Tells each edit whose lines don't stand in the source, and returns the exit status."""
+    edits, faults = 0, 0
+    for folder in sorted(glob.glob(os.path.join(CRATES, "*"))):
+        crate = os.path.basename(folder)
+        standing, _ = functions_of(crate)
+        for edit in sorted(glob.glob(os.path.join(folder, "wrong-bodies/*.edit")) + glob.glob(os.path.join(folder, "must-fail/*.edit"))):
+            bodies, edits = bodies_of(crate, edit, standing), edits + 1
+            if isinstance(bodies, str):
+                print("%s: %s" % (os.path.relpath(edit, ROOT), bodies))
+                faults += 1
+    print("%d wrong bodies, %d of them of other text" % (edits, faults))
+    return 1 if faults else 0
+
+
 def main():
     if len(sys.argv) < 2:
         sys.exit(__doc__)
+    if sys.argv[1:] == ["--apply"]:
+        return all_apply()
     crate = sys.argv[1]
     standing, cycles = functions_of(crate)
     left, refused, faults = [], 0, 0

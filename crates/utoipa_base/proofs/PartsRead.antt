@@ -3,7 +3,7 @@ use Rattle.std.proofs.Common.{◌≡◌, ◌∙◌, ◌+◌, ◌≤◌, ◌++◌
 use Rattle.std.specs.Result.{IsErrAnd}
 use Rattle.serde_json.specs.Data.{Data, Members}
 use Rattle.serde_json.specs.Find.{get, as_object}
-use Rattle.utoipa_base.specs.Docs.{Doc, Docs, no_docs, doc, list_doc, table_doc}
+use Rattle.utoipa_base.specs.Docs.{Doc, Docs, no_docs, doc, docs_append, list_doc, table_doc}
 use Rattle.utoipa_base.specs.Extensions.{extensions_at}
 use Rattle.utoipa_base.specs.Fields.{field, fields}
 use Rattle.utoipa_base.specs.Kinds.{ObjectType, Row, named}
@@ -16,7 +16,7 @@ use Rattle.utoipa_base.specs.declared.fault.ReadFault.{ReadFault}
 use Rattle.utoipa_base.proofs.ByRows.{fields-nil, fields-fit, table_refused}
 use Rattle.utoipa_base.proofs.Places.{docs_schema_count-none, docs_schema_count-cons, schema_count-list}
 use Rattle.utoipa_base.proofs.RowLists.{list_as_table, passes_reads, rows_fewer, rows_fit}
-use Rattle.utoipa_base.proofs.TableParts.{docs_append, fields_of_part, no_fields_of_part, join-fit, join-first}
+use Rattle.utoipa_base.proofs.TableParts.{fields_of_part, no_fields_of_part, join-fit, join-first}
 
 -- the rows were read as the documents, and the counter has risen from `old` to `new`
 abbrev pub PartRead : List Row → Data → Docs → ℕ → ℕ → Type 0

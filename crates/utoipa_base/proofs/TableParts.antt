@@ -2,7 +2,7 @@
 use Rattle.std.proofs.Common.{◌≡◌, ◌∙◌, ℕ, List, [], ◌∷◌, ◌++◌, true, Option, None, Some, option_map, refl, ap, is_some, Bool, rules, Result, Ok, Err, OnOk, false, sym}
 use Rattle.serde_json.specs.Data.{Data, null, boolean, number, string, array, object, Members, put}
 use Rattle.serde_json.specs.Find.{as_object}
-use Rattle.utoipa_base.specs.Docs.{Doc, Docs, no_docs, doc, list_doc, some_doc, table_doc}
+use Rattle.utoipa_base.specs.Docs.{Doc, Docs, no_docs, doc, docs_append, list_doc, some_doc, table_doc}
 use Rattle.utoipa_base.specs.Fields.{field, fields, put_field}
 use Rattle.utoipa_base.specs.Kinds.{Kind, Row, required, optional, defaulted, ObjectType}
 use Rattle.utoipa_base.specs.Reading.{both}
@@ -13,11 +13,6 @@ use Rattle.utoipa_base.specs.Shape.{RowsOf}
 use Rattle.utoipa_base.specs.Writing.{write, write_rows, put_row, is_empty}
 use Rattle.utoipa_base.proofs.ByRows.{put_field-required, put_field-some, put_field-full}
 use Rattle.serde_json.specs.declared.value.Value as json
-
--- documents, one after the other
-abbrev pub docs_append : Docs → Docs → Docs
-docs_append no_docs ys = ys
-docs_append (doc d xs) ys = doc d (docs_append xs ys)
 
 -- the fields of rows, and after them those of further rows
 abbrev both_parts : Option Docs → Option Docs → Option Docs

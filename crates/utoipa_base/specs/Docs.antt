@@ -55,6 +55,11 @@ abbrev pub option_doc : Option Doc → Doc
 option_doc None = none_doc
 option_doc (Some d) = some_doc d
 
+-- documents, and others after them
+abbrev pub docs_append : Docs → Docs → Docs
+docs_append no_docs ys = ys
+docs_append (doc d xs) ys = doc d (docs_append xs ys)
+
 abbrev pub docs_of : List Doc → Docs
 docs_of [] = no_docs
 docs_of (d ∷ ds) = doc d (docs_of ds)

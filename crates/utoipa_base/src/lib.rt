@@ -11,6 +11,7 @@ pub mod extensions;
 pub mod fault;
 pub mod fill;
 pub mod fraction;
+pub mod kept;
 pub mod laws;
 pub mod lists;
 pub mod number;
@@ -42,6 +43,7 @@ pub use extensions::{
 pub use fault::{ReadFault, fitting};
 pub use fill::{boxed_if_any, put, put_each, set};
 pub use fraction::{has_fraction, members_have_fraction};
+pub use kept::{beside, clone_rows_beside, read_rows_beside, read_table_beside};
 pub use lists::{list_from, list_if_any};
 pub use number::Number;
 pub use pending::PendingExtensions;
@@ -55,7 +57,8 @@ pub use rows::{
 };
 pub use same_trees::{same_members, same_tree};
 pub use table::{
-    print_row, print_table, read_table, read_table_alone, write_table, write_table_alone,
+    clone_rows, print_row, print_table, read_table, read_table_alone, write_table,
+    write_table_alone,
 };
 pub use tree::{Place, Tree};
 pub use words::{Word, print_word, read_word, write_word};

@@ -23,12 +23,13 @@ ghost use Rattle.utoipa_base.specs.Views.{option_of};
 ghost use Rattle.utoipa_base.specs.Writing.{write, write_rows, left_out};
 
 use crate::empty::{Empty, row_or_empty, write_unless_empty};
-use crate::extensions::{Extensions, read_extensions, written_extensions};
+use crate::extensions::{Extensions, clone_extensions, read_extensions, written_extensions};
 use crate::fault::ReadFault;
 use crate::pending::PendingExtensions;
 use crate::readings::Readings;
 use crate::rows::{
-    row_option, row_or_null, row_required, write_option, write_or_null, write_required,
+    clone_option, row_option, row_or_null, row_required, write_option, write_or_null,
+    write_required,
 };
 use crate::tree::Tree;
 use json::Writer;
@@ -229,6 +230,9 @@ pub fn read_table_alone<R: RowFields>(
 
 /// What is written of one row of a member table. The type tells the row's mark and kind; the name is given.
 pub trait RowValue {
+    /// What is read at such a row.
+    type Field: RowField;
+
     ghost line: { List ℕ → Row };
 
     // The row is of the name that is given.
@@ -254,6 +258,10 @@ pub trait RowValue {
     /// Prints what stands at the row's member, where it is not left out. Fails where memory runs out.
     fn print(&self, alloc: Global, out: &mut Writer) -> Result<(), AllocError>
         ensures { OnOk result (Prints (write (doc self.now)) out.old out.new) };
+
+    /// A copy of the row's field. Fails where memory runs out.
+    fn clone_field(&self, alloc: Global) -> Result<Self::Field, AllocError>
+        ensures { IfOk result (λ copy. Self.Field.doc copy ≡ doc self.now) };
 }
 
 /// The value of a required member, to be written.
@@ -273,6 +281,8 @@ pub struct OrNullValue<'a, T>(pub &'a Option<T>);
 pub struct DefaultedValue<'a, T>(pub &'a T);
 
 impl<'a, T: Tree> RowValue for RequiredValue<'a, T> {
+    type Field = RequiredField<T>;
+
     ghost line = { λ name. row name required T.kind };
 
     ghost is_named = { λ _. refl };
@@ -295,9 +305,15 @@ impl<'a, T: Tree> RowValue for RequiredValue<'a, T> {
     fn print(&self, alloc: Global, out: &mut Writer) -> Result<(), AllocError> {
         self.0.print(alloc, out)
     }
+
+    fn clone_field(&self, alloc: Global) -> Result<RequiredField<T>, AllocError> {
+        Ok(RequiredField(self.0.try_clone(alloc)?))
+    }
 }
 
 impl<'a, T: Tree> RowValue for OptionalValue<'a, T> {
+    type Field = OptionalField<T>;
+
     ghost line = { λ name. row name optional T.kind };
 
     ghost is_named = { λ _. refl };
@@ -323,9 +339,15 @@ impl<'a, T: Tree> RowValue for OptionalValue<'a, T> {
             None => out.null(),
         }
     }
+
+    fn clone_field(&self, alloc: Global) -> Result<OptionalField<T>, AllocError> {
+        Ok(OptionalField(clone_option(alloc, self.0)?))
+    }
 }
 
 impl<'a, T: Tree> RowValue for OrNullValue<'a, T> {
+    type Field = OrNullField<T>;
+
     ghost line = { λ name. row name or_null T.kind };
 
     ghost is_named = { λ _. refl };
@@ -351,9 +373,15 @@ impl<'a, T: Tree> RowValue for OrNullValue<'a, T> {
             None => out.null(),
         }
     }
+
+    fn clone_field(&self, alloc: Global) -> Result<OrNullField<T>, AllocError> {
+        Ok(OrNullField(clone_option(alloc, self.0)?))
+    }
 }
 
 impl<'a, T: Empty> RowValue for DefaultedValue<'a, T> {
+    type Field = DefaultedField<T>;
+
     ghost line = { λ name. row name defaulted T.kind };
 
     ghost is_named = { λ _. refl };
@@ -376,10 +404,17 @@ impl<'a, T: Empty> RowValue for DefaultedValue<'a, T> {
     fn print(&self, alloc: Global, out: &mut Writer) -> Result<(), AllocError> {
         self.0.print(alloc, out)
     }
+
+    fn clone_field(&self, alloc: Global) -> Result<DefaultedField<T>, AllocError> {
+        Ok(DefaultedField(self.0.try_clone(alloc)?))
+    }
 }
 
 /// What is written of the rows of a member table: nested pairs of [`RowValue`]s that end in `()`.
 pub trait RowValues {
+    /// What is read at such rows.
+    type Fields: RowFields;
+
     ghost count: { ℕ };
 
     ghost rows: { List (List ℕ) → List Row };
@@ -409,9 +444,15 @@ pub trait RowValues {
         requires { length names.now ≡ count }
         ensures { IfOk result (λ left. PrintsAmong (row_members (docs self.now) (rows (texts names.now)))
             (pending_view pending.entry) (pending_view left) out.old out.new) };
+
+    /// Copies of the rows' fields. Fails where memory runs out.
+    fn clone_fields(&self, alloc: Global) -> Result<Self::Fields, AllocError>
+        ensures { IfOk result (λ copy. Self.Fields.docs copy ≡ docs self.now) };
 }
 
 impl RowValues for () {
+    type Fields = ();
+
     ghost count = { 0 };
 
     ghost rows = { λ _. [] };
@@ -437,9 +478,15 @@ impl RowValues for () {
     ) -> Result<PendingExtensions<'a>, AllocError> {
         Ok(pending)
     }
+
+    fn clone_fields(&self, _alloc: Global) -> Result<(), AllocError> {
+        Ok(())
+    }
 }
 
 impl<H: RowValue, R: RowValues> RowValues for (H, R) {
+    type Fields = (H::Field, R::Fields);
+
     ghost count = { R.count + 1 };
 
     ghost rows = { rows_from H.line R.rows };
@@ -466,6 +513,26 @@ impl<H: RowValue, R: RowValues> RowValues for (H, R) {
         let later = print_row(alloc, out, names[0], &self.0, pending)?;
         self.1.print(alloc, out, &names[1..], later)
     }
+
+    fn clone_fields(&self, alloc: Global) -> Result<(H::Field, R::Fields), AllocError> {
+        let first = self.0.clone_field(alloc)?;
+        let rest = self.1.clone_fields(alloc)?;
+        Ok((first, rest))
+    }
+}
+
+/// Copies of the fields of some rows, and of the extensions beside them. Fails where memory runs out.
+pub fn clone_rows<R: RowValues>(
+    alloc: Global,
+    values: &R,
+    extensions: &Option<Extensions>,
+) -> Result<(R::Fields, Option<Extensions>), AllocError>
+    ensures { IfOk result (λ copy. (R.Fields.docs copy.0 ≡ R.docs values.now)
+        × (option_map extensions_view copy.1 ≡ option_map extensions_view extensions.now)) }
+{
+    let fields = values.clone_fields(alloc)?;
+    let copy = clone_extensions(alloc, extensions)?;
+    Ok((fields, copy))
 }
 
 /// The tree of an object: the rows of its table, by their names, over its extensions. Fails where memory runs out.

@@ -1,5 +1,5 @@
 //! Answers each line of standard input: a call, a tab, and what the call is given. It knows the types from which operations are
-//! made, and those below.
+//! made, those below, and types of the language, whose schemas are composed.
 //!
 //! A line without a tab is printed as it is: one that begins with `#` says what the next ones show. The calls:
 //!
@@ -12,11 +12,16 @@
 //! | `count TYPE` | a JSON text | the schema readings, and the values of the tree |
 //! | `count-from N TYPE` | a JSON text | `within`, where N readings at least were counted, and no more than the tree has values |
 //! | `same TYPE` | two JSON texts, a tab between | whether both values are the same |
+//! | `compose TYPE` | a JSON text: schemas and references in a list | what the type is composed to over them, or the refusal |
+//! | `schema TYPE` | anything | the schema of the type, or the refusal |
+//! | `name TYPE` | anything | the name of the type's schema |
+//! | `schemas TYPE` | anything | the names of the schemas that the type's schema refers to, behind `Given` |
 //!
 //! A value that prints another text than that of the tree that it is written as is told so by `read` and `print`, as
 //! `printed otherwise`, and that text.
 #![tactic(auto)]
 
+mod compositions;
 mod extended;
 mod extensions;
 mod same;
@@ -47,6 +52,7 @@ fn answer_to_call(alloc: Global, call: &Call<'_>) -> Result<String, AllocError> 
     match call.name {
         "print" => extensions::printed_with_extensions(alloc, call.subject(), call.given),
         "same" => same::are_same(alloc, call.subject(), call.given),
+        "compose" | "schema" | "name" | "schemas" => compositions::answer_to_call(alloc, call),
         _ => answer_to_question(alloc, call),
     }
 }

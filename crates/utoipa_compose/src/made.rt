@@ -1,7 +1,9 @@
 //! The schemas that types are composed to.
-ghost use Rattle.std.specs.Prelude.{◌≡◌, IfOk, IfErr, Some, None};
+ghost use Rattle.std.specs.Prelude.{◌≡◌, ◌∷◌, [], IfOk, IfErr, Some, None};
 ghost use Rattle.utoipa_base.specs.Numbers.{number_doc};
 ghost use Rattle.utoipa_base.specs.Views.{option_of};
+ghost use Rattle.utoipa_base.specs.declared.refs.Ref.{Ref};
+ghost use Rattle.utoipa_base.specs.declared.refs.RefOr.TheVariants as place;
 ghost use Rattle.utoipa_compose.specs.Compositions.{place_doc, map_by, own_schema};
 ghost use Rattle.utoipa_compose.specs.Made.{typed as typed_doc, integer as integer_doc, nullable as nullable_doc, array_of, anything as anything_doc, nothing as nothing_doc};
 ghost use Rattle.utoipa_compose.specs.declared.fault.ComposeFault.TheVariants.{KeyIsReference};
@@ -63,10 +65,20 @@ pub(crate) fn nothing(alloc: Global) -> RefOr<Schema>
 pub(crate) fn nullable(alloc: Global, schema: RefOr<Schema>) -> Result<RefOr<Schema>, AllocError>
     ensures { IfOk result (λ made. place_doc made ≡ nullable_doc (place_doc schema)) }
 {
+    let items = two(alloc, typed(alloc, TypeWord::Null), schema)?;
     let mut one_of = OneOf::new(alloc);
-    one_of.items.push(typed(alloc, TypeWord::Null))?;
-    one_of.items.push(schema)?;
+    one_of.items = items;
     Ok(RefOr::T(Schema::OneOf(one_of)))
+}
+
+/// A list of two values. Fails where memory runs out, and then gives them up.
+fn two<T: Drop>(alloc: Global, first: T, second: T) -> Result<Vec<T>, AllocError>
+    ensures { IfOk result (λ both. both.items ≡ first ∷ second ∷ []) }
+{
+    let mut both = Vec::new(alloc);
+    both.push(first)?;
+    both.push(second)?;
+    Ok(both)
 }
 
 /// An array of such items, which may have to be unique. Fails where memory runs out.
@@ -91,11 +103,28 @@ pub(crate) fn map(
     ensures ok { IfOk result (λ made. map_by (own_schema (Some (place_doc keys))) (Some (place_doc values)) ≡ Some (place_doc made)) }
     ensures key { IfErr result (λ fault. fault ≡ KeyIsReference → map_by (own_schema (Some (place_doc keys))) (Some (place_doc values)) ≡ None) }
 {
+    let (keys, values) = own_beside(alloc, keys, AdditionalProperties::RefOr(values))?;
+    let mut object = Object::new(alloc);
+    object.property_names = Some(keys);
+    object.additional_properties = Some(values);
+    Ok(RefOr::T(Schema::Object(object)))
+}
+
+/// What stands for the keys of a map and what stands for its values, both on the heap. Fails where a reference stands for the keys, and
+/// where memory runs out; then gives both up.
+fn own_beside<T: Drop, U: Drop>(
+    alloc: Global,
+    keys: RefOr<T>,
+    values: U,
+) -> Result<(Box<T>, Box<U>), ComposeFault>
+    ensures keys { IfOk result (λ both. keys ≡ place.T both.0.value) }
+    ensures values { IfOk result (λ both. both.1.value ≡ values) }
+    ensures key { IfErr result (λ fault. fault ≡ KeyIsReference → (reference : Ref) × (keys ≡ place.Ref reference)) }
+{
     let RefOr::T(keys) = keys else {
         return Err(ComposeFault::KeyIsReference);
     };
-    let mut object = Object::new(alloc);
-    object.property_names = Some(Box::new(alloc, keys)?);
-    object.additional_properties = Some(Box::new(alloc, AdditionalProperties::RefOr(values))?);
-    Ok(RefOr::T(Schema::Object(object)))
+    let keys = Box::new(alloc, keys)?;
+    let values = Box::new(alloc, values)?;
+    Ok((keys, values))
 }

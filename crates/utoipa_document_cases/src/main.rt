@@ -1,5 +1,5 @@
 //! Answers each line of standard input: a call, a tab, and what the call is given. It knows operations, path items and callbacks, and
-//! what is made of them: paths, components and documents.
+//! what is made of them: paths, components and documents; and it runs the command.
 //!
 //! A line without a tab is printed as it is: one that begins with `#` says what the next ones show. The calls:
 //!
@@ -24,6 +24,11 @@
 //! | `responses-from TYPE` | a JSON text | what the responses are written as, once those of the type were put |
 //! | `component-from TYPE` | a JSON text | what the components are written as, once the schema or the response of the type was put |
 //! | `callbacks` | a number | `true`, where an operation in so many callbacks, one in the other, is kept |
+//! | `run`, `run WORD`, `run WORD\|WORD..` | the text of standard input | the exit status of the command, and what it wrote |
+//! | `run-hex ..` | the same in hexadecimal, two digits a byte | the same |
+//! | `steps ..` | the text | the same, by a reader and writers that move one byte a call |
+//! | `calls ..` | the text | the same, and how often the reader and the answer's writer were called |
+//! | `faults HOW AT ..` | the text | how many calls can fail, each with the run that is due, and the run where none fails |
 //!
 //! A value that prints another text than that of the tree that it is written as is told so, as `printed otherwise`, and that
 //! text.
@@ -35,6 +40,7 @@ mod extensions;
 mod made;
 mod merged;
 mod nested;
+mod runs;
 mod types;
 
 use std::alloc::{AllocError, Global};
@@ -68,6 +74,7 @@ fn answer_to_call(alloc: Global, call: &Call<'_>) -> Result<String, AllocError> 
         "composed" => documents::nested_by_rule(alloc, call.subject(), call.given),
         "add" => merged::with_operation(alloc, call.subject(), call.given),
         "callbacks" => nested::callbacks_kept(alloc, call.given),
+        "run" | "run-hex" | "steps" | "calls" | "faults" => runs::answer_to_call(alloc, call),
         _ => answer_by_type(alloc, call),
     }
 }

@@ -1,7 +1,9 @@
-//! What needs code to be tested of paths, components and documents: builders, conversions, merging, texts, and the module paths at
-//! which a user finds all items.
+//! What needs code to be tested of paths, components, documents and the command: builders, conversions, merging, texts, the module paths
+//! at which a user finds all items, and what a caller of the command learns.
 #![tactic(auto)]
 
+#[cfg(test)]
+mod command;
 #[cfg(test)]
 mod components;
 #[cfg(test)]

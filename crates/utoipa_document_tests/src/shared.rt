@@ -74,3 +74,13 @@ pub fn came_to<T: Tree>(
 pub fn is_text(rt: &impl Abort, found: &str, expected: &str) {
     assert_eq!(rt; found, expected);
 }
+
+/// The number is the expected one.
+pub fn is_number(rt: &impl Abort, found: u64, expected: u64) {
+    assert_eq!(rt; found, expected);
+}
+
+/// The flag is the expected one.
+pub fn is_flag(rt: &impl Abort, found: bool, expected: bool) {
+    assert_eq!(rt; found, expected);
+}

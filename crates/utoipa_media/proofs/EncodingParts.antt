@@ -1,7 +1,7 @@
 -- The parts of the tables of contents, encodings and headers, read one after the other.
-use Rattle.std.proofs.Common.{◌+◌, ◌≤◌, ◌++◌, ℕ, [], ◌∷◌, Option, refl, arith, codes, Ok, Box, Global}
+use Rattle.std.proofs.Common.{◌+◌, ◌≤◌, ◌++◌, ℕ, [], ◌∷◌, Bool, Option, refl, arith, codes, Ok, Box, Global}
 use Rattle.serde_json.specs.Data.{Data}
-use Rattle.utoipa_base.specs.Docs.{no_docs}
+use Rattle.utoipa_base.specs.Docs.{Docs, doc, flag_doc, no_docs}
 use Rattle.utoipa_base.specs.Fields.{field}
 use Rattle.utoipa_base.specs.Kinds.{Row, named, ref_or, list_of, map_of, media_type_object, encoding_object, header_object, optional, defaulted}
 use Rattle.utoipa_base.specs.Reads.{Reads}
@@ -9,7 +9,10 @@ use Rattle.utoipa_base.specs.Rows.{rows_values}
 use Rattle.utoipa_base.specs.Tables.{row}
 use Rattle.utoipa_base.specs.Values.{values, values_at}
 use Rattle.utoipa_base.specs.Views.{boxed, option_of, list_of_docs, map_of_docs}
+use Rattle.utoipa_base.specs.declared.table.OptionalField.{OptionalField}
 use Rattle.utoipa_base.proofs.PartsRead.{PartRead, no_part, row_and_part, parts_fewer, values_join}
+use Rattle.utoipa_leaf.specs.Path.{parameter_style_doc}
+use Rattle.utoipa_leaf.specs.declared.path.ParameterStyle.{ParameterStyle}
 use Rattle.utoipa_media.specs.Builders.{Encodings, ItemEncodings}
 use Rattle.utoipa_media.specs.Docs.{encoding_doc}
 use Rattle.utoipa_media.specs.Parts.{encoding_head_rows, encoding_style_rows, encodings_rows, encodings_docs}
@@ -22,6 +25,13 @@ headers_row = row (codes "headers") defaulted (map_of (ref_or (named header_obje
 
 abbrev pub contents_row : Row
 contents_row = row (codes "content") defaulted (map_of (ref_or (named media_type_object)))
+
+-- what was read or copied of the rows that say how a value is serialized
+abbrev pub Style : Type 0
+Style = OptionalField ParameterStyle × (OptionalField Bool × (OptionalField Bool × Unit))
+
+abbrev pub style_docs : Style → Docs
+style_docs s = doc (option_of parameter_style_doc s.0.0) (doc (option_of flag_doc s.1.0.0) (doc (option_of flag_doc s.1.1.0.0) no_docs))
 
 -- the parts of an encoding have together no more values than it
 pub encoding_parts_fewer : (d : Data) → rows_values encoding_head_rows d + (values_at (codes "headers") d + (rows_values encoding_style_rows d + rows_values encodings_rows d)) ≤ values d

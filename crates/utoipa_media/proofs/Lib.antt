@@ -1,3 +1,4 @@
+pub mod Beside
 pub mod Built
 pub mod Counts
 pub mod EncodingParts

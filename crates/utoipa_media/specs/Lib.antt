@@ -4,4 +4,5 @@ pub mod Folds
 pub mod OfKind
 pub mod Parts
 pub mod Builders
+pub mod Fill
 pub mod Link

@@ -10,7 +10,7 @@ ghost use Rattle.utoipa_media.specs.Builders.{built_content, IsContentPlace, IsC
 ghost use Rattle.utoipa_media.specs.declared.types.Content.{out-Content};
 
 use crate::encoding::Encoding;
-use crate::lists::set_list;
+use crate::fill::set_list;
 pub use crate::types::Content;
 use serde_json::Value;
 use std::alloc::{AllocError, Global};

@@ -7,24 +7,32 @@ ghost use Rattle.utoipa_base.specs.Kinds.{media_type_object, header_object, name
 ghost use Rattle.utoipa_base.specs.Refs.{ref_or_doc};
 ghost use Rattle.utoipa_base.specs.Views.{boxed, option_of, list_of_docs, map_of_docs};
 ghost use Rattle.utoipa_media.specs.Docs.{content_doc, encoding_doc, header_doc};
+ghost use Rattle.utoipa_media.specs.Parts.{encodings_docs};
 ghost use Rattle.utoipa_media.specs.declared.types.Content.{out-Content};
 ghost use Rattle.utoipa_media.specs.declared.types.Encoding.{out-Encoding};
 ghost use Rattle.utoipa_media.specs.declared.types.Header.{out-Header};
 
+use crate::fill::{push_copied, put_copied};
+use crate::parts::{EncodingMembers, content_of, encoding_of, header_of};
+use crate::rows::{content_rows, encoding_head_rows, encoding_style_rows, header_rows};
 use crate::types::{Content, Encoding, Header};
 use std::alloc::{AllocError, Global};
 use std::collections::BTreeMap;
-use utoipa_base::{RefOr, Tree, clone_extensions, clone_option};
+use utoipa_base::table::RowValues;
+use utoipa_base::{RefOr, Tree, beside, clone_rows_beside, row_values};
 
 /// Copies a content. Fails where memory runs out.
 #[cycle(copy)]
 pub(crate) fn clone_content(alloc: Global, content: &Content) -> Result<Content, AllocError>
     ensures { IfOk result (λ copy. content_doc copy ≡ content_doc content.now) }
 {
-    let encoding = clone_encoding_map(alloc, &content.encoding)?;
-    let prefix_encoding = clone_encoding_list(alloc, &content.prefix_encoding)?;
-    let item_encoding = clone_item_encoding(alloc, &content.item_encoding)?;
-    clone_content_with(alloc, content, encoding, prefix_encoding, item_encoding)
+    let encodings = clone_encodings(
+        alloc,
+        &content.encoding,
+        &content.prefix_encoding,
+        &content.item_encoding,
+    )?;
+    clone_content_with(alloc, content, encodings)
 }
 
 /// Copies an encoding. Fails where memory runs out.
@@ -33,10 +41,14 @@ pub(crate) fn clone_encoding(alloc: Global, encoding: &Encoding) -> Result<Encod
     ensures { IfOk result (λ copy. encoding_doc copy ≡ encoding_doc encoding.now) }
 {
     let headers = clone_header_map(alloc, &encoding.headers)?;
-    let by_name = clone_encoding_map(alloc, &encoding.encoding)?;
-    let first = clone_encoding_list(alloc, &encoding.prefix_encoding)?;
-    let rest = clone_item_encoding(alloc, &encoding.item_encoding)?;
-    clone_encoding_with(alloc, encoding, headers, by_name, first, rest)
+    let encodings = clone_encodings(
+        alloc,
+        &encoding.encoding,
+        &encoding.prefix_encoding,
+        &encoding.item_encoding,
+    );
+    let (headers, encodings) = beside(headers, encodings)?;
+    clone_encoding_with(alloc, encoding, headers, encodings)
 }
 
 /// Copies a header. Fails where memory runs out.
@@ -72,6 +84,24 @@ fn clone_ref_or_header(alloc: Global, place: &RefOr<Header>) -> Result<RefOr<Hea
     }
 }
 
+/// Copies the three members that hold encodings, which contents and encodings share. Fails where memory runs out.
+#[cycle(copy)]
+fn clone_encodings(
+    alloc: Global,
+    by_name: &BTreeMap<String, Encoding>,
+    first: &Vec<Encoding>,
+    rest: &Option<Box<Encoding>>,
+) -> Result<EncodingMembers, AllocError>
+    ensures { IfOk result (λ copy. encodings_docs copy.0 copy.1 copy.2
+        ≡ encodings_docs by_name.now first.now rest.now) }
+{
+    let by_name = clone_encoding_map(alloc, by_name)?;
+    let (by_name, first) = beside(by_name, clone_encoding_list(alloc, first))?;
+    let kept = (by_name, first);
+    let ((by_name, first), rest) = beside(kept, clone_item_encoding(alloc, rest))?;
+    Ok((by_name, first, rest))
+}
+
 /// Copies a list of encodings. Fails where memory runs out.
 #[cycle(copy)]
 fn clone_encoding_list(
@@ -82,7 +112,7 @@ fn clone_encoding_list(
 {
     let mut list = Vec::new(alloc);
     for item in encodings {
-        list.push(clone_encoding(alloc, item)?)?;
+        push_copied(&mut list, clone_encoding(alloc, item))?;
     }
     Ok(list)
 }
@@ -97,9 +127,7 @@ fn clone_encoding_map(
 {
     let mut map = BTreeMap::new(alloc);
     for (key, member) in encodings.iter() {
-        let name = key.clone()?;
-        let value = clone_encoding(alloc, member)?;
-        drop(map.insert(name, value)?);
+        put_copied(&mut map, key, clone_encoding(alloc, member))?;
     }
     Ok(map)
 }
@@ -115,9 +143,7 @@ fn clone_header_map(
 {
     let mut map = BTreeMap::new(alloc);
     for (key, member) in headers.iter() {
-        let name = key.clone()?;
-        let value = clone_ref_or_header(alloc, member)?;
-        drop(map.insert(name, value)?);
+        put_copied(&mut map, key, clone_ref_or_header(alloc, member))?;
     }
     Ok(map)
 }
@@ -133,9 +159,7 @@ fn clone_content_map(
 {
     let mut map = BTreeMap::new(alloc);
     for (key, member) in contents.iter() {
-        let name = key.clone()?;
-        let value = clone_ref_or_content(alloc, member)?;
-        drop(map.insert(name, value)?);
+        put_copied(&mut map, key, clone_ref_or_content(alloc, member))?;
     }
     Ok(map)
 }
@@ -162,35 +186,20 @@ fn clone_item_encoding(
 fn clone_content_with(
     alloc: Global,
     content: &Content,
-    encoding: BTreeMap<String, Encoding>,
-    prefix_encoding: Vec<Encoding>,
-    item_encoding: Option<Box<Encoding>>,
+    encodings: EncodingMembers,
 ) -> Result<Content, AllocError>
-    ensures { IfOk result (λ copy. map_of_docs encoding_doc encoding
-        ≡ map_of_docs encoding_doc (out-Content content.now).encoding
-        → list_of_docs encoding_doc prefix_encoding
-        ≡ list_of_docs encoding_doc (out-Content content.now).prefix_encoding
-        → option_of (boxed encoding_doc) item_encoding
-        ≡ option_of (boxed encoding_doc) (out-Content content.now).item_encoding
+    ensures { IfOk result (λ copy. encodings_docs encodings.0 encodings.1 encodings.2
+        ≡ encodings_docs (out-Content content.now).encoding (out-Content content.now).prefix_encoding (out-Content content.now).item_encoding
         → content_doc copy ≡ content_doc content.now) }
 {
-    let schema = clone_option(alloc, &content.schema)?;
-    let item_schema = clone_option(alloc, &content.item_schema)?;
-    let description = clone_option(alloc, &content.description)?;
-    let example = clone_option(alloc, &content.example)?;
-    let examples = content.examples.try_clone(alloc)?;
-    let extensions = clone_extensions(alloc, &content.extensions)?;
-    Ok(Content {
-        schema,
-        item_schema,
-        description,
-        example,
-        examples,
-        encoding,
-        prefix_encoding,
-        item_encoding,
-        extensions,
-    })
+    let rows = content_rows!(row_values!(content));
+    let (rows, extensions, encodings) = clone_rows_beside(
+        alloc,
+        &rows,
+        &content.extensions,
+        encodings,
+    )?;
+    Ok(content_of(rows, extensions, encodings))
 }
 
 /// Copies an encoding, whose headers and encodings have been copied. Fails where memory runs out.
@@ -198,34 +207,24 @@ fn clone_encoding_with(
     alloc: Global,
     encoding: &Encoding,
     headers: BTreeMap<String, RefOr<Header>>,
-    by_name: BTreeMap<String, Encoding>,
-    first: Vec<Encoding>,
-    rest: Option<Box<Encoding>>,
+    encodings: EncodingMembers,
 ) -> Result<Encoding, AllocError>
     ensures { IfOk result (λ copy. map_of_docs (ref_or_doc (named header_object) header_doc) headers
         ≡ map_of_docs (ref_or_doc (named header_object) header_doc) (out-Encoding encoding.now).headers
-        → map_of_docs encoding_doc by_name ≡ map_of_docs encoding_doc (out-Encoding encoding.now).encoding
-        → list_of_docs encoding_doc first ≡ list_of_docs encoding_doc (out-Encoding encoding.now).prefix_encoding
-        → option_of (boxed encoding_doc) rest
-        ≡ option_of (boxed encoding_doc) (out-Encoding encoding.now).item_encoding
+        → encodings_docs encodings.0 encodings.1 encodings.2
+        ≡ encodings_docs (out-Encoding encoding.now).encoding (out-Encoding encoding.now).prefix_encoding (out-Encoding encoding.now).item_encoding
         → encoding_doc copy ≡ encoding_doc encoding.now) }
 {
-    let content_type = clone_option(alloc, &encoding.content_type)?;
-    let style = clone_option(alloc, &encoding.style)?;
-    let explode = clone_option(alloc, &encoding.explode)?;
-    let allow_reserved = clone_option(alloc, &encoding.allow_reserved)?;
-    let extensions = clone_extensions(alloc, &encoding.extensions)?;
-    Ok(Encoding {
-        content_type,
-        headers,
-        style,
-        explode,
-        allow_reserved,
-        encoding: by_name,
-        prefix_encoding: first,
-        item_encoding: rest,
-        extensions,
-    })
+    let style = encoding_style_rows!(row_values!(encoding)).clone_fields(alloc);
+    let kept = beside((headers, encodings), style)?;
+    let head = encoding_head_rows!(row_values!(encoding));
+    let (head, extensions, ((headers, encodings), style)) = clone_rows_beside(
+        alloc,
+        &head,
+        &encoding.extensions,
+        kept,
+    )?;
+    Ok(encoding_of(head, extensions, style, headers, encodings))
 }
 
 /// Copies a header, whose content has been copied. Fails where memory runs out.
@@ -238,23 +237,7 @@ fn clone_header_with(
         ≡ map_of_docs (ref_or_doc (named media_type_object) content_doc) (out-Header header.now).content
         → header_doc copy ≡ header_doc header.now) }
 {
-    let schema = clone_option(alloc, &header.schema)?;
-    let description = clone_option(alloc, &header.description)?;
-    let deprecated = clone_option(alloc, &header.deprecated)?;
-    let style = clone_option(alloc, &header.style)?;
-    let explode = clone_option(alloc, &header.explode)?;
-    let example = clone_option(alloc, &header.example)?;
-    let examples = header.examples.try_clone(alloc)?;
-    let extensions = clone_extensions(alloc, &header.extensions)?;
-    Ok(Header {
-        schema,
-        description,
-        deprecated,
-        style,
-        explode,
-        example,
-        examples,
-        content,
-        extensions,
-    })
+    let rows = header_rows!(row_values!(header));
+    let (rows, extensions, content) = clone_rows_beside(alloc, &rows, &header.extensions, content)?;
+    Ok(header_of(rows, extensions, content))
 }

@@ -7,8 +7,8 @@ ghost use Rattle.utoipa_base.specs.Lists.{IsFilledFrom};
 ghost use Rattle.utoipa_media.specs.Builders.{built_encoding, header_place, header_reference, IsEmptyEncoding, Encodings, Headers, ItemEncodings};
 ghost use Rattle.utoipa_media.specs.declared.types.Encoding.{out-Encoding};
 
+use crate::fill::set_list;
 use crate::header::Header;
-use crate::lists::set_list;
 pub use crate::types::Encoding;
 use std::alloc::{AllocError, Global};
 use std::collections::BTreeMap;

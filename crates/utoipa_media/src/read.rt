@@ -5,22 +5,27 @@
 //! that hold contents, encodings or headers; the other members are read where the value is made (`assemble.rt`).
 ghost use Rattle.std.specs.Prelude.{codes};
 ghost use Rattle.serde_json.specs.View.{view};
+ghost use Rattle.utoipa_base.specs.Docs.{list_doc};
 ghost use Rattle.utoipa_base.specs.Fields.{field};
 ghost use Rattle.utoipa_base.specs.Kinds.{ref_or, list_of, map_of, named, media_type_object, encoding_object, header_object, optional, defaulted};
 ghost use Rattle.utoipa_base.specs.Reading.{read};
 ghost use Rattle.utoipa_base.specs.Reads.{Reads};
 ghost use Rattle.utoipa_base.specs.Refs.{ref_or_doc};
+ghost use Rattle.utoipa_base.specs.Rows.{part, rows_values};
 ghost use Rattle.utoipa_base.specs.Tables.{row};
 ghost use Rattle.utoipa_base.specs.Values.{values, values_at};
 ghost use Rattle.utoipa_base.specs.Views.{boxed, option_of, list_of_docs, map_of_docs};
 ghost use Rattle.utoipa_media.specs.Docs.{content_doc, encoding_doc, header_doc};
+ghost use Rattle.utoipa_media.specs.Parts.{encodings_rows, encodings_docs};
 
 use crate::assemble::{assemble_content, assemble_encoding, assemble_header};
+use crate::fill::{push_read, put_read};
+use crate::parts::EncodingMembers;
 use crate::types::{Content, Encoding, Header};
 use serde_json::Value;
 use std::alloc::Global;
 use std::collections::BTreeMap;
-use utoipa_base::{ReadFault, Readings, Ref, RefOr, Tree, fitting};
+use utoipa_base::{ReadFault, Readings, Ref, RefOr, Tree, beside, fitting};
 
 /// A content, where no reference may stand. A tree that is no object is refused as `Kind("Content")`.
 #[cycle(read)]
@@ -32,17 +37,8 @@ pub(crate) fn read_content(
     ensures { Reads (read (named media_type_object) (view tree.now)) content_doc result
         readings.old readings.new (values (view tree.now)) }
 {
-    let encoding = read_encodings_by_name(alloc, tree, readings)?;
-    let prefix_encoding = read_first_encodings(alloc, tree, readings)?;
-    let item_encoding = read_item_encoding(alloc, tree, readings)?;
-    assemble_content(
-        alloc,
-        tree,
-        encoding,
-        prefix_encoding,
-        item_encoding,
-        readings,
-    )
+    let encodings = read_encodings(alloc, tree, readings)?;
+    assemble_content(alloc, tree, encodings, readings)
 }
 
 /// An encoding. A tree that is no object is refused as `Kind("Encoding")`.
@@ -56,18 +52,8 @@ pub(crate) fn read_encoding(
         readings.old readings.new (values (view tree.now)) }
 {
     let headers = read_headers(alloc, tree, readings)?;
-    let encoding = read_encodings_by_name(alloc, tree, readings)?;
-    let prefix_encoding = read_first_encodings(alloc, tree, readings)?;
-    let item_encoding = read_item_encoding(alloc, tree, readings)?;
-    assemble_encoding(
-        alloc,
-        tree,
-        headers,
-        encoding,
-        prefix_encoding,
-        item_encoding,
-        readings,
-    )
+    let (headers, encodings) = beside(headers, read_encodings(alloc, tree, readings))?;
+    assemble_encoding(alloc, tree, headers, encodings, readings)
 }
 
 /// A header, where no reference may stand. A tree that is no object is refused as `Kind("Header")`.
@@ -118,6 +104,23 @@ pub(crate) fn read_ref_or_header(
         return Ok(RefOr::Ref(reference));
     }
     Ok(RefOr::T(read_header(alloc, tree, readings)?))
+}
+
+/// The three members that hold encodings, which contents and encodings share.
+#[cycle(read)]
+fn read_encodings(
+    alloc: Global,
+    tree: &Value,
+    readings: &mut Readings,
+) -> Result<EncodingMembers, ReadFault>
+    ensures { Reads (part encodings_rows (view tree.now)) (λ e. list_doc (encodings_docs e.0 e.1 e.2)) result
+        readings.old readings.new (rows_values encodings_rows (view tree.now)) }
+{
+    let by_name = read_encodings_by_name(alloc, tree, readings)?;
+    let (by_name, first) = beside(by_name, read_first_encodings(alloc, tree, readings))?;
+    let kept = (by_name, first);
+    let ((by_name, first), rest) = beside(kept, read_item_encoding(alloc, tree, readings))?;
+    Ok((by_name, first, rest))
 }
 
 /// The encodings of the properties: the member `encoding`.
@@ -226,7 +229,7 @@ pub(crate) fn read_encoding_list(
     };
     let mut list = Vec::new(alloc);
     for item in items {
-        list.push(read_encoding(alloc, item, readings)?)?;
+        push_read(&mut list, read_encoding(alloc, item, readings))?;
     }
     Ok(list)
 }
@@ -248,9 +251,7 @@ fn read_encoding_map(
     };
     let mut map = BTreeMap::new(alloc);
     for (key, member) in members.iter() {
-        let name = key.clone()?;
-        let value = read_encoding(alloc, member, readings)?;
-        drop(map.insert(name, value)?);
+        put_read(&mut map, key, read_encoding(alloc, member, readings))?;
     }
     Ok(map)
 }
@@ -273,9 +274,7 @@ fn read_header_map(
     };
     let mut map = BTreeMap::new(alloc);
     for (key, member) in members.iter() {
-        let name = key.clone()?;
-        let value = read_ref_or_header(alloc, member, readings)?;
-        drop(map.insert(name, value)?);
+        put_read(&mut map, key, read_ref_or_header(alloc, member, readings))?;
     }
     Ok(map)
 }
@@ -298,9 +297,7 @@ pub(crate) fn read_content_map(
     };
     let mut map = BTreeMap::new(alloc);
     for (key, member) in members.iter() {
-        let name = key.clone()?;
-        let value = read_ref_or_content(alloc, member, readings)?;
-        drop(map.insert(name, value)?);
+        put_read(&mut map, key, read_ref_or_content(alloc, member, readings))?;
     }
     Ok(map)
 }

@@ -1,5 +1,5 @@
 //! The rows of contents, encodings and headers that hold none of these themselves, in the order of their member tables: mark,
-//! member, field.
+//! member, field; and what a value is made of, once they have been read or copied.
 
 macro_rules! content_rows {
     ($lines:ident!($($arguments:tt)*)) => {
@@ -49,7 +49,21 @@ macro_rules! header_rows {
     };
 }
 
+// A value of a type, from some of its fields and from those of rows that were read or copied, each part with the list of its rows:
+// the first one last.
+macro_rules! from_rows {
+    ($type:ident {$($fields:tt)*} [] $part:ident; $($mark:ident $name:literal $field:ident,)*) => {{
+        let utoipa_base::row_fields!($($mark $field,)*) = $part;
+        $type { $($fields)* $($field,)* }
+    }};
+    ($type:ident {$($fields:tt)*} [$next:ident $rows:ident] $part:ident; $($mark:ident $name:literal $field:ident,)*) => {{
+        let utoipa_base::row_fields!($($mark $field,)*) = $part;
+        $rows!(from_rows!($type {$($fields)* $($field,)*} [] $next))
+    }};
+}
+
 pub(crate) use content_rows;
 pub(crate) use encoding_head_rows;
 pub(crate) use encoding_style_rows;
+pub(crate) use from_rows;
 pub(crate) use header_rows;

@@ -12,6 +12,7 @@ use json::Writer;
 use serde_json::Value;
 use std::alloc::{AllocError, Global};
 use std::collections::BTreeMap;
+use std::mem;
 use utoipa_base::{
     Deprecated, Extensions, Place, ReadFault, Readings, RefOr, Required, Tree, clone_table,
     from_fields, print_table, put, put_each, read_table, row_names, row_values, write_table,
@@ -231,7 +232,7 @@ impl ParameterBuilder {
     pub fn schema(mut self, schema: Option<RefOr<Schema>>) -> ParameterBuilder
         ensures { built_parameter result ≡ record (built_parameter self) { schema = schema } }
     {
-        self.parameter.schema = schema;
+        drop(mem::replace(&mut self.parameter.schema, schema));
         self
     }
 

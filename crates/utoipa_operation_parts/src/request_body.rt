@@ -1,15 +1,19 @@
 //! The bodies of requests.
-ghost use Rattle.std.specs.Prelude.{◌≡◌, IfOk, refl, false, string_cmp};
+ghost use Rattle.std.specs.Prelude.{◌≡◌, IfOk, refl, false, option_map, string_cmp};
 ghost use Rattle.std.specs.BTreeMap.{insert_entry};
+ghost use Rattle.utoipa_base.specs.Docs.{table_doc};
+ghost use Rattle.utoipa_base.specs.Extensions.{extensions_view};
 ghost use Rattle.utoipa_base.specs.Kinds.{named, request_body_object};
 ghost use Rattle.utoipa_media.specs.Builders.{Contents, content_place, content_reference};
 ghost use Rattle.utoipa_operation_parts.specs.JsonSchema.{PutsJsonSchema};
+ghost use Rattle.utoipa_operation_parts.specs.RequestBody.{request_body_doc};
 
 use crate::json_schema::{json_media_type, json_schema_content};
 use json::Writer;
 use serde_json::Value;
 use std::alloc::{AllocError, Global};
 use std::collections::BTreeMap;
+use utoipa_base::table::{OptionalField, RequiredField, RowFields};
 use utoipa_base::{
     Extensions, Place, ReadFault, Readings, Ref, RefOr, Required, Tree, clone_table, from_fields,
     print_table, put, read_table, row_names, row_values, write_table,
@@ -76,9 +80,26 @@ impl RequestBody {
     }
 }
 
+/// The fields of a request body, as the rows of its table are read.
+type RequestBodyRows = (
+    OptionalField<String>,
+    (
+        RequiredField<BTreeMap<String, RefOr<Content>>>,
+        (OptionalField<Required>, ()),
+    ),
+);
+
+/// The request body of these fields.
+fn request_body_of(fields: RequestBodyRows, extensions: Option<Extensions>) -> RequestBody
+    ensures { request_body_doc result ≡ table_doc request_body_object (⟦<RequestBodyRows as RowFields>⟧.docs fields)
+        (option_map extensions_view extensions) }
+{
+    request_body_rows!(from_fields!(RequestBody, fields, extensions))
+}
+
 /// A body of a request, by its member table.
 impl Tree for RequestBody {
-    ghost use Rattle.utoipa_operation_parts.specs.RequestBody.{request_body_doc, request_body_of_kind};
+    ghost use Rattle.utoipa_operation_parts.specs.RequestBody.{request_body_of_kind};
 
     ghost kind = { named request_body_object };
 
@@ -93,7 +114,7 @@ impl Tree for RequestBody {
     ) -> Result<RequestBody, ReadFault> {
         let names = request_body_rows!(row_names!());
         let (fields, extensions) = read_table(alloc, tree, "RequestBody", names, readings)?;
-        Ok(request_body_rows!(from_fields!(RequestBody, fields, extensions)))
+        Ok(request_body_of(fields, extensions))
     }
 
     fn to_value(&self, alloc: Global) -> Result<Value, AllocError> {
@@ -158,12 +179,8 @@ impl RequestBodyBuilder {
             × (contents.entries ≡ insert_entry string_cmp (built_request_body self).content.entries media_type (content_place content))
             × (built_request_body b ≡ record (built_request_body self) { content = contents })) }
     {
-        drop(
-            self.request_body
-                .content
-                .insert(media_type, RefOr::T(content))?,
-        );
-        Ok(self)
+        let content = RefOr::T(content);
+        put(&mut self.request_body.content, media_type, content).and(Ok(self))
     }
 
     /// Puts a reference to a content under a media type, in place of an earlier one, or a content, of that type.
@@ -178,12 +195,8 @@ impl RequestBodyBuilder {
             × (contents.entries ≡ insert_entry string_cmp (built_request_body self).content.entries media_type (content_reference reference))
             × (built_request_body b ≡ record (built_request_body self) { content = contents })) }
     {
-        drop(
-            self.request_body
-                .content
-                .insert(media_type, RefOr::Ref(reference))?,
-        );
-        Ok(self)
+        let content = RefOr::Ref(reference);
+        put(&mut self.request_body.content, media_type, content).and(Ok(self))
     }
 
     /// Sets whether the body has to be sent.

@@ -1,5 +1,5 @@
 //! Responses of operations.
-ghost use Rattle.std.specs.Prelude.{◌≡◌, [], IfOk, refl, false, string_cmp, string_eq};
+ghost use Rattle.std.specs.Prelude.{◌≡◌, [], IfOk, OnOk, refl, false, string_cmp, string_eq};
 ghost use Rattle.std.specs.BTreeMap.{insert_entry};
 ghost use Rattle.std.specs.Iterator.{IsFinite, Drains};
 ghost use Rattle.indexmap.specs.IndexMap.{insert_entry as insert_in_order};
@@ -191,8 +191,7 @@ impl ResponseBuilder {
             × (contents.entries ≡ insert_in_order string_eq (built_response self).content.entries media_type (content_place content))
             × (built_response b ≡ record (built_response self) { content = contents })) }
     {
-        drop(self.response.content.insert(media_type, RefOr::T(content))?);
-        Ok(self)
+        put_in_order(&mut self.response.content, media_type, RefOr::T(content)).and(Ok(self))
     }
 
     /// Puts a reference to a content under a media type: in place of an earlier one, or a content, of that type, and after all
@@ -208,12 +207,8 @@ impl ResponseBuilder {
             × (contents.entries ≡ insert_in_order string_eq (built_response self).content.entries media_type (content_reference reference))
             × (built_response b ≡ record (built_response self) { content = contents })) }
     {
-        drop(
-            self.response
-                .content
-                .insert(media_type, RefOr::Ref(reference))?,
-        );
-        Ok(self)
+        let content = RefOr::Ref(reference);
+        put_in_order(&mut self.response.content, media_type, content).and(Ok(self))
     }
 
     /// Puts a header under its name, in place of an earlier one, or a reference, of that name.
@@ -263,6 +258,19 @@ impl ResponseBuilder {
     {
         self.response
     }
+}
+
+/// Puts a value into a map that keeps its order: in place of an earlier one of that name, and after all others where there is none.
+/// Fails where memory runs out, and then gives it up.
+fn put_in_order<T: Drop>(
+    map: &mut IndexMap<String, T>,
+    name: String,
+    value: T,
+) -> Result<(), AllocError>
+    ensures { OnOk result (map.new.entries ≡ insert_in_order string_eq map.old.entries name value) }
+{
+    drop(map.insert(name, value)?);
+    Ok(())
 }
 
 impl From<Response> for ResponseBuilder {

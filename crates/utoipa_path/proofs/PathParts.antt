@@ -1,21 +1,39 @@
 -- The parts of the tables of operations and path items, read one after the other.
 use Rattle.std.proofs.Common.{◌≡◌, ◌+◌, ◌<◌, ◌≤◌, ◌++◌, ℕ, List, [], ◌∷◌, drop, Option, None, option_map, refl, ap, arith, codes, Ok, String, Global, BTreeMap}
 use Rattle.serde_json.specs.Data.{Data}
-use Rattle.utoipa_base.specs.Docs.{no_docs, doc, list_doc}
+use Rattle.utoipa_base.specs.Docs.{Docs, no_docs, doc, docs_append, list_doc}
 use Rattle.utoipa_base.specs.Fields.{field}
 use Rattle.utoipa_base.specs.Kinds.{Row, named, ref_or, map_of, operation_object, optional, defaulted}
 use Rattle.utoipa_base.specs.Reads.{Reads}
 use Rattle.utoipa_base.specs.Rows.{part, rows_values}
 use Rattle.utoipa_base.specs.Tables.{row, callback}
-use Rattle.utoipa_base.specs.Values.{values, values_at}
+use Rattle.utoipa_base.specs.Values.{values, values_at, docs_schema_count}
 use Rattle.utoipa_base.specs.Views.{option_of, map_of_docs}
 use Rattle.utoipa_base.proofs.ByRows.{fields-first}
 use Rattle.utoipa_base.proofs.PartsRead.{PartRead, no_part, row_and_part, parts_fewer, values_join}
-use Rattle.utoipa_base.proofs.TableParts.{join-later}
+use Rattle.utoipa_base.proofs.Places.{docs_schema_count-none, docs_schema_count-cons, schema_count-list}
+use Rattle.utoipa_base.proofs.TableParts.{fields_of_part, join-fit, join-later}
 use Rattle.utoipa_base.proofs.Values.{names_fewer}
 use Rattle.utoipa_path.specs.Docs.{operation_doc}
 use Rattle.utoipa_path.specs.Parts.{description_rows, message_rows, use_rows, operations_rows}
 use Rattle.utoipa_path.specs.declared.types.Operation.{Operation}
+
+-- ---- any table
+
+counts_join : (xs ys : Docs) → docs_schema_count (docs_append xs ys) ≡ docs_schema_count xs + docs_schema_count ys
+counts_join no_docs ys = omega (arith, docs_schema_count-none)
+counts_join (doc d xs) ys = omega (arith, docs_schema_count-cons d (docs_append xs ys), docs_schema_count-cons d xs, counts_join xs ys)
+
+-- rows that were read after those before them
+pub part_after : (rs ss : List Row) (d : Data) (xs ys : Docs) (old mid new : ℕ) → PartRead rs d xs old mid → PartRead ss d ys mid new → PartRead (rs ++ ss) d (docs_append xs ys) old new
+part_after rs ss d xs ys old mid new one two =
+    record {
+      ok = ap (option_map list_doc) (join-fit rs ss d xs ys (fields_of_part rs d xs one.ok) (fields_of_part ss d ys two.ok));
+      err = tt;
+      grows = omega (arith, one.grows, two.grows);
+      at_most = omega (arith, one.at_most, two.at_most, values_join rs ss d);
+      at_least = λ below. omega (arith, one.at_least (omega (arith, two.grows, below)), two.at_least below, schema_count-list (docs_append xs ys), schema_count-list xs, schema_count-list ys, counts_join xs ys);
+    }
 
 -- ---- the parts of an operation
 

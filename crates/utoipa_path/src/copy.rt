@@ -3,8 +3,9 @@
 //! The functions of the cycle copy what holds operations or path items; the members that hold none are copied outside of it. A path
 //! item is large, so it is copied in place, and on the heap while operations inside of it are copied: a level of path items takes
 //! no room for one on the stack.
-ghost use Rattle.std.specs.Prelude.{◌≡◌, Option, IfOk, OnOk, option_map, string_cmp};
+ghost use Rattle.std.specs.Prelude.{◌≡◌, [], Option, IfOk, OnOk, option_map, string_cmp};
 ghost use Rattle.std.specs.BTreeMap.{insert_entry};
+ghost use Rattle.utoipa_base.specs.Extensions.{extensions_view};
 ghost use Rattle.utoipa_base.specs.Kinds.{path_item_object, named};
 ghost use Rattle.utoipa_base.specs.Refs.{ref_or_doc};
 ghost use Rattle.utoipa_base.specs.Tables.{callback as callback_kind};
@@ -19,11 +20,13 @@ ghost use Rattle.utoipa_path.specs.declared.types.PathItem.{PathItem, out-PathIt
 
 use crate::methods::{operation_of, replace_operation};
 use crate::path_item::empty_path_item;
+use crate::rows::{base_rows, description_rows, from_rows, message_rows, over_rows, use_rows};
 use crate::types::{Callback, Operation, PathItem};
 use std::alloc::{AllocError, Global};
 use std::collections::BTreeMap;
 use std::mem;
-use utoipa_base::{Ref, RefOr, Tree, clone_extensions, clone_option};
+use utoipa_base::table::RowValues;
+use utoipa_base::{Extensions, Ref, RefOr, Tree, clone_extensions, row_fields, row_values};
 use utoipa_leaf::path::HttpMethod;
 
 /// Copies an operation. Fails where memory runs out.
@@ -40,8 +43,7 @@ pub(crate) fn clone_path_item(alloc: Global, item: &PathItem) -> Result<PathItem
     ensures { IfOk result (λ copy. path_item_doc copy ≡ path_item_doc item.now) }
 {
     let mut copy = empty_path_item(alloc);
-    copy_path_item(&mut copy, alloc, item)?;
-    Ok(copy)
+    copy_path_item(&mut copy, alloc, item).and(Ok(copy))
 }
 
 /// Makes a path item a copy of another. Fails where memory runs out, and then some of it was copied.
@@ -59,8 +61,7 @@ fn clone_boxed_path_item(alloc: Global, item: &PathItem) -> Result<Box<PathItem>
     ensures { IfOk result (λ copy. path_item_doc copy.value ≡ path_item_doc item.now) }
 {
     let mut copy = boxed_empty_path_item(alloc)?;
-    copy_path_item(&mut *copy, alloc, item)?;
-    Ok(copy)
+    copy_path_item(&mut *copy, alloc, item).and(Ok(copy))
 }
 
 /// Puts a copy of a reference, or of a path item in its place, into a callback under an expression. Fails where memory runs out.
@@ -86,12 +87,22 @@ fn put_ref_or_path_item(
 pub(crate) fn clone_callback(alloc: Global, callback: &Callback) -> Result<Callback, AllocError>
     ensures { IfOk result (λ copy. callback_doc copy ≡ callback_doc callback.now) }
 {
-    let mut map = BTreeMap::new(alloc);
+    let mut copy = BTreeMap::new(alloc);
+    copy_callback(&mut copy, alloc, callback).and(Ok(copy))
+}
+
+/// Puts copies of the references and path items of a callback into one that is empty. Fails where memory runs out, and then some were
+/// put.
+#[cycle(copy)]
+fn copy_callback(copy: &mut Callback, alloc: Global, callback: &Callback) -> Result<(), AllocError>
+    requires { copy.old.entries ≡ [] }
+    ensures { OnOk result (callback_doc copy.new ≡ callback_doc callback.now) }
+{
     for (key, member) in callback.iter() {
         let name = key.clone()?;
-        put_ref_or_path_item(&mut map, alloc, name, member)?;
+        put_ref_or_path_item(copy, alloc, name, member)?;
     }
-    Ok(map)
+    Ok(())
 }
 
 /// Copies a reference, or a callback in its place. Fails where memory runs out.
@@ -117,13 +128,27 @@ fn clone_callback_map(
 ) -> Result<BTreeMap<String, RefOr<Callback>>, AllocError>
     ensures { IfOk result (λ copy. callbacks_doc copy ≡ callbacks_doc callbacks.now) }
 {
-    let mut map = BTreeMap::new(alloc);
+    let mut copy = BTreeMap::new(alloc);
+    copy_callback_map(&mut copy, alloc, callbacks).and(Ok(copy))
+}
+
+/// Puts copies of references and callbacks, with their names, into a map that is empty. Fails where memory runs out, and then some
+/// were put.
+#[cycle(copy)]
+fn copy_callback_map(
+    copy: &mut BTreeMap<String, RefOr<Callback>>,
+    alloc: Global,
+    callbacks: &BTreeMap<String, RefOr<Callback>>,
+) -> Result<(), AllocError>
+    requires { copy.old.entries ≡ [] }
+    ensures { OnOk result (callbacks_doc copy.new ≡ callbacks_doc callbacks.now) }
+{
     for (key, member) in callbacks.iter() {
         let name = key.clone()?;
         let value = clone_ref_or_callback(alloc, member)?;
-        put(&mut map, name, value)?;
+        put(copy, name, value)?;
     }
-    Ok(map)
+    Ok(())
 }
 
 /// Copies operations with the names of their methods. Fails where memory runs out.
@@ -134,13 +159,27 @@ fn clone_operation_map(
 ) -> Result<BTreeMap<String, Operation>, AllocError>
     ensures { IfOk result (λ copy. map_of_docs operation_doc copy ≡ map_of_docs operation_doc operations.now) }
 {
-    let mut map = BTreeMap::new(alloc);
+    let mut copy = BTreeMap::new(alloc);
+    copy_operation_map(&mut copy, alloc, operations).and(Ok(copy))
+}
+
+/// Puts copies of operations, with the names of their methods, into a map that is empty. Fails where memory runs out, and then some
+/// were put.
+#[cycle(copy)]
+fn copy_operation_map(
+    copy: &mut BTreeMap<String, Operation>,
+    alloc: Global,
+    operations: &BTreeMap<String, Operation>,
+) -> Result<(), AllocError>
+    requires { copy.old.entries ≡ [] }
+    ensures { OnOk result (map_of_docs operation_doc copy.new ≡ map_of_docs operation_doc operations.now) }
+{
     for (key, member) in operations.iter() {
         let name = key.clone()?;
         let value = clone_operation(alloc, member)?;
-        put(&mut map, name, value)?;
+        put(copy, name, value)?;
     }
-    Ok(map)
+    Ok(())
 }
 
 /// Copies an operation, if there is one. Fails where memory runs out.
@@ -291,33 +330,43 @@ fn clone_operation_with(
     ensures { IfOk result (λ copy. callbacks_doc callbacks ≡ callbacks_doc (out-Operation operation.now).callbacks
         → operation_doc copy ≡ operation_doc operation.now) }
 {
-    let tags = clone_option(alloc, &operation.tags)?;
-    let summary = clone_option(alloc, &operation.summary)?;
-    let description = clone_option(alloc, &operation.description)?;
-    let operation_id = clone_option(alloc, &operation.operation_id)?;
-    let external_docs = clone_option(alloc, &operation.external_docs)?;
-    let parameters = clone_option(alloc, &operation.parameters)?;
-    let request_body = clone_option(alloc, &operation.request_body)?;
-    let responses = operation.responses.try_clone(alloc)?;
-    let deprecated = clone_option(alloc, &operation.deprecated)?;
-    let security = clone_option(alloc, &operation.security)?;
-    let servers = clone_option(alloc, &operation.servers)?;
-    let extensions = clone_extensions(alloc, &operation.extensions)?;
-    Ok(Operation {
-        tags,
-        summary,
-        description,
-        operation_id,
-        external_docs,
-        parameters,
-        request_body,
-        responses,
+    let (head, message, callbacks, uses, extensions) = clone_around(
+        alloc,
+        &description_rows!(row_values!(operation)),
+        &message_rows!(row_values!(operation)),
         callbacks,
-        deprecated,
-        security,
-        servers,
-        extensions,
-    })
+        &use_rows!(row_values!(operation)),
+        &operation.extensions,
+    )?;
+    Ok(use_rows!(from_rows!(
+        Operation { callbacks, extensions, }
+        [message message_rows head description_rows] uses
+    )))
+}
+
+/// Copies of the fields of some rows, in three parts, and of the extensions beside them; what is kept is handed back before the last
+/// part. Fails where memory runs out, and then gives up what was kept.
+///
+/// What is kept is of any type here, so that to give it up is one call at each part that may not be copied.
+fn clone_around<F: RowValues, S: RowValues, K: Drop, L: RowValues>(
+    alloc: Global,
+    first: &F,
+    second: &S,
+    kept: K,
+    last: &L,
+    extensions: &Option<Extensions>,
+) -> Result<(F::Fields, S::Fields, K, L::Fields, Option<Extensions>), AllocError>
+    ensures { IfOk result (λ copy. (F.Fields.docs copy.0 ≡ F.docs first.now)
+        × (S.Fields.docs copy.1 ≡ S.docs second.now)
+        × (copy.2 ≡ kept)
+        × (L.Fields.docs copy.3 ≡ L.docs last.now)
+        × (option_map extensions_view copy.4 ≡ option_map extensions_view extensions.now)) }
+{
+    let before = first.clone_fields(alloc)?;
+    let between = second.clone_fields(alloc)?;
+    let after = last.clone_fields(alloc)?;
+    let copy = clone_extensions(alloc, extensions)?;
+    Ok((before, between, kept, after, copy))
 }
 
 /// Makes a path item that has copies of the operations of another a copy of it. Fails where memory runs out, and then gives up the
@@ -348,13 +397,13 @@ fn clone_path_item_with(
         ≡ operations_of operation_doc (out-PathItem item.now)
         → path_item_doc copy ≡ path_item_doc item.now) }
 {
-    Ok(PathItem {
-        ref_path: clone_option(alloc, &item.ref_path)?,
-        summary: clone_option(alloc, &item.summary)?,
-        description: clone_option(alloc, &item.description)?,
-        servers: clone_option(alloc, &item.servers)?,
-        parameters: clone_option(alloc, &item.parameters)?,
-        extensions: clone_extensions(alloc, &item.extensions)?,
-        ..operations
-    })
+    let (base, (), operations, (), extensions) = clone_around(
+        alloc,
+        &base_rows!(row_values!(item)),
+        &(),
+        operations,
+        &(),
+        &item.extensions,
+    )?;
+    Ok(base_rows!(over_rows!(PathItem { extensions, } operations base)))
 }

@@ -3,7 +3,7 @@
 //! A place that may hold a reference is read by [`read_ref_or_path_item`] or [`read_ref_or_callback`]; a reference in it counts
 //! nothing, since it stands for no schema. The functions below call each other on the way from an object to its members
 //! that hold operations or path items; the other members are read where the value is made (`assemble.rt`).
-ghost use Rattle.std.specs.Prelude.{codes};
+ghost use Rattle.std.specs.Prelude.{◌≡◌, [], Option, Ok, Err, IfErr, OnOk, codes};
 ghost use Rattle.serde_json.specs.View.{view};
 ghost use Rattle.utoipa_base.specs.Docs.{list_doc};
 ghost use Rattle.utoipa_base.specs.Fields.{field};
@@ -15,16 +15,23 @@ ghost use Rattle.utoipa_base.specs.Rows.{part, rows_values};
 ghost use Rattle.utoipa_base.specs.Tables.{row, callback};
 ghost use Rattle.utoipa_base.specs.Values.{values, values_at};
 ghost use Rattle.utoipa_base.specs.Views.{option_of, map_of_docs};
+ghost use Rattle.utoipa_path.specs.Builders.{Operations};
 ghost use Rattle.utoipa_path.specs.Docs.{operations_of, operation_doc, path_item_doc, callback_doc, callbacks_doc};
+ghost use Rattle.utoipa_path.specs.Methods.{with_method};
 ghost use Rattle.utoipa_path.specs.Parts.{operations_rows};
+ghost use Rattle.utoipa_path.specs.declared.types.Operation.{Operation};
 ghost use Rattle.utoipa_path.specs.declared.types.PathItem.{out-PathItem};
 
 use crate::assemble::{assemble_operation, assemble_path_item};
+use crate::methods::replace_operation;
+use crate::path_item::empty_path_item;
 use crate::types::{Callback, Operation, PathItem};
 use serde_json::Value;
 use std::alloc::Global;
 use std::collections::BTreeMap;
-use utoipa_base::{ReadFault, Readings, Ref, RefOr, Tree, fitting};
+use std::mem;
+use utoipa_base::{ReadFault, Readings, Ref, RefOr, Tree, fitting, put};
+use utoipa_leaf::path::HttpMethod;
 
 /// An operation. A tree that is no object is refused as `Kind("Operation")`.
 #[cycle(read)]
@@ -117,24 +124,97 @@ fn read_operations(
     ensures { Reads (part operations_rows (view tree.now)) (λ i. list_doc (operations_of operation_doc (out-PathItem i))) result
         readings.old readings.new (rows_values operations_rows (view tree.now)) }
 {
-    Ok(PathItem {
-        ref_path: None,
-        summary: None,
-        description: None,
-        servers: None,
-        parameters: None,
-        get: read_method(alloc, tree, "get", readings)?,
-        put: read_method(alloc, tree, "put", readings)?,
-        post: read_method(alloc, tree, "post", readings)?,
-        delete: read_method(alloc, tree, "delete", readings)?,
-        options: read_method(alloc, tree, "options", readings)?,
-        head: read_method(alloc, tree, "head", readings)?,
-        patch: read_method(alloc, tree, "patch", readings)?,
-        trace: read_method(alloc, tree, "trace", readings)?,
-        query: read_method(alloc, tree, "query", readings)?,
-        additional_operations: read_additional_operations(alloc, tree, readings)?,
-        extensions: None,
-    })
+    let mut item = empty_path_item(alloc);
+    fill_operations(&mut item, alloc, tree, readings).and(Ok(item))
+}
+
+/// Sets the operations of a path item to those in a tree. Fails at the first member that does not fit, and then those before it are
+/// set.
+#[cycle(read)]
+fn fill_operations(
+    item: &mut PathItem,
+    alloc: Global,
+    tree: &Value,
+    readings: &mut Readings,
+) -> Result<(), ReadFault>
+    ensures { Reads (part operations_rows (view tree.now)) (λ _. list_doc (operations_of operation_doc (out-PathItem item.new))) result
+        readings.old readings.new (rows_values operations_rows (view tree.now)) }
+{
+    fill_method(item, alloc, tree, HttpMethod::Get, "get", readings)?;
+    fill_method(item, alloc, tree, HttpMethod::Put, "put", readings)?;
+    fill_method(item, alloc, tree, HttpMethod::Post, "post", readings)?;
+    fill_method(item, alloc, tree, HttpMethod::Delete, "delete", readings)?;
+    fill_method(item, alloc, tree, HttpMethod::Options, "options", readings)?;
+    fill_method(item, alloc, tree, HttpMethod::Head, "head", readings)?;
+    fill_method(item, alloc, tree, HttpMethod::Patch, "patch", readings)?;
+    fill_method(item, alloc, tree, HttpMethod::Trace, "trace", readings)?;
+    fill_query(item, alloc, tree, readings)?;
+    fill_additional_operations(item, alloc, tree, readings)?;
+    Ok(())
+}
+
+/// Sets the operation of a method to the one in a tree, under the name given, or that there is none. Fails where it does not fit, and
+/// then nothing has changed.
+#[cycle(read)]
+fn fill_method(
+    item: &mut PathItem,
+    alloc: Global,
+    tree: &Value,
+    method: HttpMethod,
+    name: &'static str,
+    readings: &mut Readings,
+) -> Result<(), ReadFault>
+    ensures ok { OnOk result ((operation : Option Operation)
+        × Reads {A = Option Operation} (field (row name.now optional (named operation_object)) (view tree.now))
+        (option_of operation_doc) (Ok operation) readings.old readings.new (values_at name.now (view tree.now))
+        × (out-PathItem item.new ≡ with_method method operation (out-PathItem item.old))) }
+    ensures err { IfErr result (λ e. Reads {A = Option Operation} (field (row name.now optional (named operation_object)) (view tree.now))
+        (option_of operation_doc) (Err e) readings.old readings.new (values_at name.now (view tree.now))) }
+{
+    let operation = read_method(alloc, tree, name, readings)?;
+    drop(replace_operation(item, method, operation));
+    Ok(())
+}
+
+/// Sets the operation of QUERY to the one in a tree, or that there is none. Fails where it does not fit, and then nothing has changed.
+#[cycle(read)]
+fn fill_query(
+    item: &mut PathItem,
+    alloc: Global,
+    tree: &Value,
+    readings: &mut Readings,
+) -> Result<(), ReadFault>
+    ensures ok { OnOk result ((operation : Option Operation)
+        × Reads {A = Option Operation} (field (row (codes "query") optional (named operation_object)) (view tree.now))
+        (option_of operation_doc) (Ok operation) readings.old readings.new (values_at (codes "query") (view tree.now))
+        × (out-PathItem item.new ≡ record (out-PathItem item.old) { query = operation })) }
+    ensures err { IfErr result (λ e. Reads {A = Option Operation} (field (row (codes "query") optional (named operation_object)) (view tree.now))
+        (option_of operation_doc) (Err e) readings.old readings.new (values_at (codes "query") (view tree.now))) }
+{
+    let operation = read_method(alloc, tree, "query", readings)?;
+    drop(mem::replace(&mut item.query, operation));
+    Ok(())
+}
+
+/// Sets the operations of other methods to those in a tree. Fails where they do not fit, and then nothing has changed.
+#[cycle(read)]
+fn fill_additional_operations(
+    item: &mut PathItem,
+    alloc: Global,
+    tree: &Value,
+    readings: &mut Readings,
+) -> Result<(), ReadFault>
+    ensures ok { OnOk result ((operations : Operations)
+        × Reads {A = Operations} (field (row (codes "additionalOperations") defaulted (map_of (named operation_object))) (view tree.now))
+        (map_of_docs operation_doc) (Ok operations) readings.old readings.new (values_at (codes "additionalOperations") (view tree.now))
+        × (out-PathItem item.new ≡ record (out-PathItem item.old) { additional_operations = operations })) }
+    ensures err { IfErr result (λ e. Reads {A = Operations}
+        (field (row (codes "additionalOperations") defaulted (map_of (named operation_object))) (view tree.now))
+        (map_of_docs operation_doc) (Err e) readings.old readings.new (values_at (codes "additionalOperations") (view tree.now))) }
+{
+    let operations = read_additional_operations(alloc, tree, readings)?;
+    drop(mem::replace(&mut item.additional_operations, operations));
+    Ok(())
 }
 
 /// The operation of one method: the member of the name. There is none, too, where the member is null.
@@ -178,9 +258,7 @@ fn read_additional_operations(
 }
 
 /// References and path items by the expressions that give their URLs.
-// Not inlined: the room of the insertion is not to stand on the stack while a value beside the map is read.
 #[cycle(read)]
-#[inline(never)]
 pub(crate) fn read_callback(
     alloc: Global,
     tree: &Value,
@@ -189,22 +267,38 @@ pub(crate) fn read_callback(
     ensures { Reads (read callback (view tree.now)) callback_doc result
         readings.old readings.new (values (view tree.now)) }
 {
-    let Some(members) = tree.as_object() else {
-        return Err(ReadFault::Kind("map"));
-    };
     let mut map = BTreeMap::new(alloc);
-    for (key, member) in members.iter() {
-        let name = key.clone()?;
-        let value = read_ref_or_path_item(alloc, member, readings)?;
-        drop(map.insert(name, value)?);
-    }
-    Ok(map)
+    fill_callback(&mut map, alloc, tree, readings).and(Ok(map))
 }
 
-/// References and callbacks by their names.
+/// Puts the references and path items of a callback into a map that is empty. Fails where the tree is no object, and at the first
+/// member that does not fit, and then those before it were put.
 // Not inlined: the room of the insertion is not to stand on the stack while a value beside the map is read.
 #[cycle(read)]
 #[inline(never)]
+fn fill_callback(
+    map: &mut Callback,
+    alloc: Global,
+    tree: &Value,
+    readings: &mut Readings,
+) -> Result<(), ReadFault>
+    requires { map.old.entries ≡ [] }
+    ensures { Reads (read callback (view tree.now)) (λ _. callback_doc map.new) result
+        readings.old readings.new (values (view tree.now)) }
+{
+    let Some(members) = tree.as_object() else {
+        return Err(ReadFault::Kind("map"));
+    };
+    for (key, member) in members.iter() {
+        let name = key.clone()?;
+        let value = read_ref_or_path_item(alloc, member, readings)?;
+        put(map, name, value)?;
+    }
+    Ok(())
+}
+
+/// References and callbacks by their names.
+#[cycle(read)]
 pub(crate) fn read_callback_map(
     alloc: Global,
     tree: &Value,
@@ -213,22 +307,38 @@ pub(crate) fn read_callback_map(
     ensures { Reads (read (map_of (ref_or callback)) (view tree.now)) callbacks_doc result
         readings.old readings.new (values (view tree.now)) }
 {
-    let Some(members) = tree.as_object() else {
-        return Err(ReadFault::Kind("map"));
-    };
     let mut map = BTreeMap::new(alloc);
-    for (key, member) in members.iter() {
-        let name = key.clone()?;
-        let value = read_ref_or_callback(alloc, member, readings)?;
-        drop(map.insert(name, value)?);
-    }
-    Ok(map)
+    fill_callback_map(&mut map, alloc, tree, readings).and(Ok(map))
 }
 
-/// Operations by the names of their methods.
+/// Puts references and callbacks by their names into a map that is empty. Fails where the tree is no object, and at the first member
+/// that does not fit, and then those before it were put.
 // Not inlined: the room of the insertion is not to stand on the stack while a value beside the map is read.
 #[cycle(read)]
 #[inline(never)]
+fn fill_callback_map(
+    map: &mut BTreeMap<String, RefOr<Callback>>,
+    alloc: Global,
+    tree: &Value,
+    readings: &mut Readings,
+) -> Result<(), ReadFault>
+    requires { map.old.entries ≡ [] }
+    ensures { Reads (read (map_of (ref_or callback)) (view tree.now)) (λ _. callbacks_doc map.new) result
+        readings.old readings.new (values (view tree.now)) }
+{
+    let Some(members) = tree.as_object() else {
+        return Err(ReadFault::Kind("map"));
+    };
+    for (key, member) in members.iter() {
+        let name = key.clone()?;
+        let value = read_ref_or_callback(alloc, member, readings)?;
+        put(map, name, value)?;
+    }
+    Ok(())
+}
+
+/// Operations by the names of their methods.
+#[cycle(read)]
 pub(crate) fn read_operation_map(
     alloc: Global,
     tree: &Value,
@@ -237,14 +347,32 @@ pub(crate) fn read_operation_map(
     ensures { Reads (read (map_of (named operation_object)) (view tree.now)) (map_of_docs operation_doc) result
         readings.old readings.new (values (view tree.now)) }
 {
+    let mut map = BTreeMap::new(alloc);
+    fill_operation_map(&mut map, alloc, tree, readings).and(Ok(map))
+}
+
+/// Puts operations by the names of their methods into a map that is empty. Fails where the tree is no object, and at the first member
+/// that is no operation, and then those before it were put.
+// Not inlined: the room of the insertion is not to stand on the stack while a value beside the map is read.
+#[cycle(read)]
+#[inline(never)]
+fn fill_operation_map(
+    map: &mut BTreeMap<String, Operation>,
+    alloc: Global,
+    tree: &Value,
+    readings: &mut Readings,
+) -> Result<(), ReadFault>
+    requires { map.old.entries ≡ [] }
+    ensures { Reads (read (map_of (named operation_object)) (view tree.now)) (λ _. map_of_docs operation_doc map.new) result
+        readings.old readings.new (values (view tree.now)) }
+{
     let Some(members) = tree.as_object() else {
         return Err(ReadFault::Kind("map"));
     };
-    let mut map = BTreeMap::new(alloc);
     for (key, member) in members.iter() {
         let name = key.clone()?;
         let value = read_operation(alloc, member, readings)?;
-        drop(map.insert(name, value)?);
+        put(map, name, value)?;
     }
-    Ok(map)
+    Ok(())
 }

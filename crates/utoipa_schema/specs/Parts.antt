@@ -1,8 +1,9 @@
 -- The members of schemas that hold no schema, in parts: their rows, their documents, and the fields of schemas that they are.
-use Rattle.std.specs.Prelude.{ℕ, List, take, drop, Option, String, Vec}
+use Rattle.std.specs.Prelude.{◌≡◌, ℕ, List, take, drop, Option, option_map, String, Vec}
 use Rattle.std.specs.declared.alloc.Global.{Global}
 use Rattle.serde_json.specs.declared.value.Value.{Value}
 use Rattle.utoipa_base.specs.Docs.{flag_doc, whole_doc, Docs, no_docs, doc}
+use Rattle.utoipa_base.specs.Extensions.{extensions_view}
 use Rattle.utoipa_base.specs.Flags.{deprecated_doc}
 use Rattle.utoipa_base.specs.Kinds.{ObjectType, discriminator_object, xml_object, one_of_schema, array_schema, object_schema, text, flag, whole, numeral, any, list_of, named, schema_format, Row}
 use Rattle.utoipa_base.specs.Numbers.{number_doc}
@@ -21,6 +22,7 @@ use Rattle.utoipa_schema.specs.declared.types.OneOf.{OneOf}
 use Rattle.utoipa_schema.specs.declared.types.AllOf.{AllOf}
 use Rattle.utoipa_schema.specs.declared.types.AnyOf.{AnyOf}
 use Rattle.utoipa_schema.specs.declared.without_schemas.combination.Combination.{Combination}
+use Rattle.utoipa_schema.specs.declared.without_schemas.object.ObjectParts.{ObjectParts}
 use Rattle.utoipa_schema.specs.declared.without_schemas.object.ObjectHead.{ObjectHead}
 use Rattle.utoipa_schema.specs.declared.without_schemas.object.ObjectAnnotations.{ObjectAnnotations}
 use Rattle.utoipa_schema.specs.declared.without_schemas.object.NumberLimits.{NumberLimits}
@@ -256,6 +258,17 @@ size_limits_and_content_of_object s = record {
   content_encoding = s.content_encoding;
   content_media_type = s.content_media_type;
 }
+
+-- ---- the parts of an object together
+
+-- the parts stand for the same as those of an object
+abbrev pub IsCopyOfParts : Object → ObjectParts → Type 0
+IsCopyOfParts s p =
+    (object_head_docs p.head ≡ object_head_docs (head_of_object s))
+    × (object_annotation_docs p.annotations ≡ object_annotation_docs (annotations_of_object s))
+    × (number_limit_docs p.numbers ≡ number_limit_docs (number_limits_of_object s))
+    × (size_limit_and_content_docs p.sizes ≡ size_limit_and_content_docs (size_limits_and_content_of_object s))
+    × (option_map extensions_view p.extensions ≡ option_map extensions_view s.extensions)
 
 -- ---- an array's members before `items`
 

@@ -5,10 +5,11 @@ ghost use Rattle.utoipa_base.specs.Lists.{IsFilledFrom};
 ghost use Rattle.utoipa_schema.specs.Builders.{built_all_of, built_array, all_of_place, one_array, IsEmptyAllOf, IsArrayOf, Items, Values};
 
 use crate::array::ArrayBuilder;
+use crate::lists::push_one;
 use crate::types::{AllOf, Schema};
 use serde_json::Value;
 use std::alloc::{AllocError, Global};
-use utoipa_base::{Extensions, RefOr, list_from};
+use utoipa_base::{Extensions, RefOr, list_from, set};
 use utoipa_schema_parts::{Discriminator, SchemaType};
 
 impl AllOf {
@@ -76,8 +77,7 @@ impl AllOfBuilder {
         ensures { IfOk result (λ b. (listed : Items) × (listed.items ≡ (built_all_of self).items.items ++ item ∷ [])
             × (built_all_of b ≡ record (built_all_of self) { items = listed })) }
     {
-        self.all_of.items.push(item)?;
-        Ok(self)
+        push_one(&mut self.all_of.items, item).and(Ok(self))
     }
 
     /// Sets the types of the value.
@@ -133,8 +133,8 @@ impl AllOfBuilder {
         ensures { IfOk result (λ b. (listed : Values) × IsFilledFrom I.next_gives examples listed
             × (built_all_of b ≡ record (built_all_of self) { examples = listed })) }
     {
-        self.all_of.examples = list_from(alloc, examples)?;
-        Ok(self)
+        let examples = list_from(alloc, examples);
+        set(&mut self.all_of.examples, examples).and(Ok(self))
     }
 
     /// Sets the property that tells which of the schemas a value is of.

@@ -5,10 +5,11 @@ ghost use Rattle.utoipa_base.specs.Lists.{IsFilledFrom};
 ghost use Rattle.utoipa_schema.specs.Builders.{built_any_of, built_array, any_of_place, one_array, IsEmptyAnyOf, IsArrayOf, Items, Values};
 
 use crate::array::ArrayBuilder;
+use crate::lists::push_one;
 use crate::types::{AnyOf, Schema};
 use serde_json::Value;
 use std::alloc::{AllocError, Global};
-use utoipa_base::{Extensions, RefOr, list_from};
+use utoipa_base::{Extensions, RefOr, list_from, set};
 use utoipa_schema_parts::{Discriminator, SchemaType};
 
 impl AnyOf {
@@ -75,8 +76,7 @@ impl AnyOfBuilder {
         ensures { IfOk result (λ b. (listed : Items) × (listed.items ≡ (built_any_of self).items.items ++ item ∷ [])
             × (built_any_of b ≡ record (built_any_of self) { items = listed })) }
     {
-        self.any_of.items.push(item)?;
-        Ok(self)
+        push_one(&mut self.any_of.items, item).and(Ok(self))
     }
 
     /// Sets the types of the value.
@@ -124,8 +124,8 @@ impl AnyOfBuilder {
         ensures { IfOk result (λ b. (listed : Values) × IsFilledFrom I.next_gives examples listed
             × (built_any_of b ≡ record (built_any_of self) { examples = listed })) }
     {
-        self.any_of.examples = list_from(alloc, examples)?;
-        Ok(self)
+        let examples = list_from(alloc, examples);
+        set(&mut self.any_of.examples, examples).and(Ok(self))
     }
 
     /// Sets the property that tells which of the schemas a value is of.

@@ -11,8 +11,7 @@ ghost use Rattle.utoipa_schema.specs.Builders.{built_array, array_place, object_
 use crate::types::{Array, ArrayItems, Object, Schema};
 use serde_json::Value;
 use std::alloc::{AllocError, Global};
-use std::mem;
-use utoipa_base::{Deprecated, Extensions, Ref, RefOr, boxed_if_any, list_from};
+use utoipa_base::{Deprecated, Extensions, Ref, RefOr, boxed_if_any, list_from, set};
 use utoipa_schema_parts::{SchemaType, TypeWord, Xml};
 
 impl Array {
@@ -139,7 +138,7 @@ impl ArrayBuilder {
     ///
     /// Fails where memory runs out, and then gives up what was built.
     pub fn prefix_items<I: Iterator<Item = Schema> + Drop>(
-        self,
+        mut self,
         alloc: Global,
         prefix_items: I,
     ) -> Result<ArrayBuilder, AllocError>
@@ -148,17 +147,8 @@ impl ArrayBuilder {
         ensures { IfOk result (λ b. (listed : Schemas) × IsFilledFrom I.next_gives prefix_items listed
             × (built_array b ≡ record (built_array self) { prefix_items = listed })) }
     {
-        let listed = list_from(alloc, prefix_items)?;
-        Ok(self.with_prefix_items(listed))
-    }
-
-    /// Sets the list of the schemas of the first items.
-    fn with_prefix_items(mut self, prefix_items: Vec<Schema>) -> ArrayBuilder
-        ensures { built_array result ≡ record (built_array self) { prefix_items = prefix_items } }
-    {
-        // An assignment would drop the old list where it stands, for which the check writes no proof here.
-        drop(mem::replace(&mut self.array.prefix_items, prefix_items));
-        self
+        let prefix_items = list_from(alloc, prefix_items);
+        set(&mut self.array.prefix_items, prefix_items).and(Ok(self))
     }
 
     /// Sets the description.
@@ -198,8 +188,8 @@ impl ArrayBuilder {
         ensures { IfOk result (λ b. (listed : Values) × IsFilledFrom I.next_gives examples listed
             × (built_array b ≡ record (built_array self) { examples = listed })) }
     {
-        self.array.examples = list_from(alloc, examples)?;
-        Ok(self)
+        let examples = list_from(alloc, examples);
+        set(&mut self.array.examples, examples).and(Ok(self))
     }
 
     /// Sets the value that is taken where there is none.
@@ -269,8 +259,8 @@ impl ArrayBuilder {
         ensures { IfOk result (λ b. (boxed : _) × IsBoxedIfAny content_schema boxed
             × (built_array b ≡ record (built_array self) { content_schema = boxed })) }
     {
-        self.array.content_schema = boxed_if_any(alloc, content_schema)?;
-        Ok(self)
+        let content_schema = boxed_if_any(alloc, content_schema);
+        set(&mut self.array.content_schema, content_schema).and(Ok(self))
     }
 
     /// Sets the specification extensions.

@@ -14,12 +14,10 @@ use crate::without_schemas::array::{
     clone_array_annotations, clone_array_head, clone_item_limits_and_representation,
 };
 use crate::without_schemas::combination::clone_combination;
-use crate::without_schemas::object::{
-    clone_number_limits, clone_object_annotations, clone_object_head, clone_size_limits_and_content,
-};
+use crate::without_schemas::object::{ObjectParts, clone_object_parts};
 use std::alloc::{AllocError, Global};
 use std::collections::BTreeMap;
-use utoipa_base::{RefOr, Tree, clone_extensions, clone_option};
+use utoipa_base::{RefOr, Tree, beside, clone_extensions, clone_option};
 
 /// Copies a schema. Fails where memory runs out.
 #[cycle(copy)]
@@ -390,11 +388,21 @@ fn clone_object_with(
         → content_schema_doc content_schema ≡ content_schema_doc object.now.content_schema
         → object_doc copy ≡ object_doc object.now) }
 {
-    let head = clone_object_head(alloc, object)?;
-    let annotations = clone_object_annotations(alloc, object)?;
-    let numbers = clone_number_limits(alloc, object)?;
-    let sizes = clone_size_limits_and_content(alloc, object)?;
-    let extensions = clone_extensions(alloc, &object.extensions)?;
+    let schemas = (
+        properties,
+        additional_properties,
+        property_names,
+        content_schema,
+    );
+    let (schemas, parts) = beside(schemas, clone_object_parts(alloc, object))?;
+    let (properties, additional_properties, property_names, content_schema) = schemas;
+    let ObjectParts {
+        head,
+        annotations,
+        numbers,
+        sizes,
+        extensions,
+    } = parts;
     Ok(Object {
         schema_type: head.schema_type,
         title: head.title,

@@ -10,6 +10,7 @@ pub mod conversions;
 mod copy;
 mod fill;
 mod inner_members;
+mod lists;
 mod members;
 pub mod object;
 pub mod one_of;

@@ -8,11 +8,14 @@ ghost use Rattle.utoipa_base.specs.Lists.{IsFilledFrom, IsFilledIfAny};
 ghost use Rattle.utoipa_schema.specs.Builders.{built_object, built_array, object_place, one_object, one_array, IsEmptyObject, IsArrayOf, IsEmptySchema, Texts, Values, Properties};
 
 use crate::array::ArrayBuilder;
+use crate::lists::push_one;
 use crate::types::{AdditionalProperties, Object, Schema};
 use serde_json::Value;
 use std::alloc::{AllocError, Global};
 use std::collections::BTreeMap;
-use utoipa_base::{Deprecated, Extensions, Number, RefOr, boxed_if_any, list_from, list_if_any};
+use utoipa_base::{
+    Deprecated, Extensions, Number, RefOr, boxed_if_any, list_from, list_if_any, put, set,
+};
 use utoipa_schema_parts::{SchemaFormat, SchemaType, TypeWord, Xml};
 
 impl Object {
@@ -147,8 +150,8 @@ impl ObjectBuilder {
         ensures { IfOk result (λ b. (listed : Option Values) × IsFilledIfAny I.next_gives enum_values listed
             × (built_object b ≡ record (built_object self) { enum_values = listed })) }
     {
-        self.object.enum_values = list_if_any(alloc, enum_values)?;
-        Ok(self)
+        let enum_values = list_if_any(alloc, enum_values);
+        set(&mut self.object.enum_values, enum_values).and(Ok(self))
     }
 
     /// Adds the name of a property that has to be there, after those that were added.
@@ -158,8 +161,7 @@ impl ObjectBuilder {
         ensures { IfOk result (λ b. (listed : Texts) × (listed.items ≡ (built_object self).required.items ++ name ∷ [])
             × (built_object b ≡ record (built_object self) { required = listed })) }
     {
-        self.object.required.push(name)?;
-        Ok(self)
+        push_one(&mut self.object.required, name).and(Ok(self))
     }
 
     /// Puts the schema of a property under its name, in place of an earlier one of that name.
@@ -174,8 +176,7 @@ impl ObjectBuilder {
             × (properties.entries ≡ insert_entry string_cmp (built_object self).properties.entries name schema)
             × (built_object b ≡ record (built_object self) { properties = properties })) }
     {
-        drop(self.object.properties.insert(name, schema)?);
-        Ok(self)
+        put(&mut self.object.properties, name, schema).and(Ok(self))
     }
 
     /// Sets what the properties are that are not listed.
@@ -189,8 +190,12 @@ impl ObjectBuilder {
         ensures { IfOk result (λ b. (boxed : _) × IsBoxedIfAny additional_properties boxed
             × (built_object b ≡ record (built_object self) { additional_properties = boxed })) }
     {
-        self.object.additional_properties = boxed_if_any(alloc, additional_properties)?;
-        Ok(self)
+        let additional_properties = boxed_if_any(alloc, additional_properties);
+        set(
+            &mut self.object.additional_properties,
+            additional_properties,
+        )
+        .and(Ok(self))
     }
 
     /// Sets what the names of properties have to be.
@@ -204,8 +209,8 @@ impl ObjectBuilder {
         ensures { IfOk result (λ b. (boxed : _) × IsBoxedIfAny property_names boxed
             × (built_object b ≡ record (built_object self) { property_names = boxed })) }
     {
-        self.object.property_names = boxed_if_any(alloc, property_names)?;
-        Ok(self)
+        let property_names = boxed_if_any(alloc, property_names);
+        set(&mut self.object.property_names, property_names).and(Ok(self))
     }
 
     /// Sets whether the value should no longer be used.
@@ -237,8 +242,8 @@ impl ObjectBuilder {
         ensures { IfOk result (λ b. (listed : Values) × IsFilledFrom I.next_gives examples listed
             × (built_object b ≡ record (built_object self) { examples = listed })) }
     {
-        self.object.examples = list_from(alloc, examples)?;
-        Ok(self)
+        let examples = list_from(alloc, examples);
+        set(&mut self.object.examples, examples).and(Ok(self))
     }
 
     /// Sets whether the value is only sent to the server.
@@ -372,8 +377,8 @@ impl ObjectBuilder {
         ensures { IfOk result (λ b. (boxed : _) × IsBoxedIfAny content_schema boxed
             × (built_object b ≡ record (built_object self) { content_schema = boxed })) }
     {
-        self.object.content_schema = boxed_if_any(alloc, content_schema)?;
-        Ok(self)
+        let content_schema = boxed_if_any(alloc, content_schema);
+        set(&mut self.object.content_schema, content_schema).and(Ok(self))
     }
 
     /// Sets the specification extensions.

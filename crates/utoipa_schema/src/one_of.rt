@@ -5,10 +5,11 @@ ghost use Rattle.utoipa_base.specs.Lists.{IsFilledFrom};
 ghost use Rattle.utoipa_schema.specs.Builders.{built_one_of, built_array, one_of_place, one_array, IsEmptyOneOf, IsArrayOf, Items, Values};
 
 use crate::array::ArrayBuilder;
+use crate::lists::push_one;
 use crate::types::{OneOf, Schema};
 use serde_json::Value;
 use std::alloc::{AllocError, Global};
-use utoipa_base::{Extensions, RefOr, list_from};
+use utoipa_base::{Extensions, RefOr, list_from, set};
 use utoipa_schema_parts::{Discriminator, SchemaType};
 
 impl OneOf {
@@ -78,8 +79,7 @@ impl OneOfBuilder {
         ensures { IfOk result (λ b. (listed : Items) × (listed.items ≡ (built_one_of self).items.items ++ item ∷ [])
             × (built_one_of b ≡ record (built_one_of self) { items = listed })) }
     {
-        self.one_of.items.push(item)?;
-        Ok(self)
+        push_one(&mut self.one_of.items, item).and(Ok(self))
     }
 
     /// Sets the types of the value.
@@ -135,8 +135,8 @@ impl OneOfBuilder {
         ensures { IfOk result (λ b. (listed : Values) × IsFilledFrom I.next_gives examples listed
             × (built_one_of b ≡ record (built_one_of self) { examples = listed })) }
     {
-        self.one_of.examples = list_from(alloc, examples)?;
-        Ok(self)
+        let examples = list_from(alloc, examples);
+        set(&mut self.one_of.examples, examples).and(Ok(self))
     }
 
     /// Sets the property that tells which of the schemas a value is of.

@@ -1,21 +1,19 @@
 //! The members of schemas that hold no schema, in parts that are read, written and copied one by one.
 //!
 //! The rows of a part stand in a macro beside it, in the order of the member table.
-ghost use Rattle.std.specs.Prelude.{◌≡◌, length, Some, IfOk, IfErr, OnOk};
-ghost use Rattle.serde_json.specs.View.{view, members_view};
+ghost use Rattle.std.specs.Prelude.{◌≡◌, length, Some, IfOk, IfErr};
+ghost use Rattle.serde_json.specs.View.{view};
 ghost use Rattle.utoipa_base.specs.Docs.{list_doc};
 ghost use Rattle.utoipa_base.specs.Faults.{Refuses};
 ghost use Rattle.utoipa_base.specs.Rows.{part, texts};
-ghost use Rattle.utoipa_base.specs.Writing.{write_rows};
 
 pub(crate) mod array;
 pub(crate) mod combination;
 pub(crate) mod object;
 
-use serde_json::{Map, Value};
-use std::alloc::{AllocError, Global};
-use std::mem;
-use utoipa_base::table::{RowFields, RowValues};
+use serde_json::Value;
+use std::alloc::Global;
+use utoipa_base::table::RowFields;
 use utoipa_base::{ReadFault, Readings};
 
 // A schema of a type, from some of its fields and from parts, each with the list of its rows: the first one last.
@@ -30,6 +28,25 @@ macro_rules! from_parts {
 
 pub(crate) use from_parts;
 
+// Writes the member of a row.
+macro_rules! write_row {
+    (required, $members:expr, $alloc:expr, $name:literal, $value:expr) => { write_required($members, $alloc, $name, $value) };
+    (optional, $members:expr, $alloc:expr, $name:literal, $value:expr) => { write_option($members, $alloc, $name, $value) };
+    (defaulted, $members:expr, $alloc:expr, $name:literal, $value:expr) => { write_unless_empty($members, $alloc, $name, $value) };
+}
+
+pub(crate) use write_row;
+
+// Writes the rows of a part among other members, one by one: a tuple of what is borrowed for each row takes longer to check.
+macro_rules! write_each {
+    ($members:expr, $alloc:expr, $value:expr; $($mark:ident $name:literal $field:ident,)*) => {{
+        $(write_row!($mark, $members, $alloc, $name, &$value.$field)?;)*
+        Ok(())
+    }};
+}
+
+pub(crate) use write_each;
+
 /// The fields of a part's rows, by the rows' names. Fails at the first row that does not fit. A part holds no schema, so
 /// none is counted.
 fn read_part<R: RowFields>(
@@ -43,20 +60,4 @@ fn read_part<R: RowFields>(
 {
     let mut uncounted = Readings::new();
     R::read(alloc, tree, names, &mut uncounted)
-}
-
-/// Writes a part's rows over the members, by the rows' names. Fails where memory runs out.
-fn write_part<R: RowValues>(
-    members: &mut Map<String, Value>,
-    alloc: Global,
-    names: &[&str],
-    values: &R,
-) -> Result<(), AllocError>
-    requires { length names.now ≡ R.count }
-    ensures { OnOk result (members_view members.new.entries
-        ≡ write_rows (R.docs values.now) (R.rows (texts names.now)) (members_view members.old.entries)) }
-{
-    let before = mem::replace(members, Map::new(alloc));
-    *members = values.write(before, alloc, names)?;
-    Ok(())
 }

@@ -1,3 +1,2 @@
-mod Callers
 mod SameScopes
 mod SameTypes

@@ -1,12 +1,14 @@
-//! What needs code to be tested of the basic types, the small objects, security and the command: builders, conversions,
-//! comparisons, copies, and memory that is refused. What can be told as an input and an output is a case of `utoipa_cases` or
-//! `utoipa_command_cases`. What callers learn of `==` is no test: `equality` is proved alone.
+//! What needs code to be tested of the basic types, the small objects, security, schemas, contents, responses, operations and path items:
+//! builders, conversions, comparisons, copies, texts, merging, and memory that is refused. What can be told as an input and an output is a
+//! case of `utoipa_cases` or `utoipa_document_cases`. What callers learn of `==` is no test: `equality` is proved alone.
 #![tactic(auto)]
 
 #[cfg(test)]
-mod command;
+mod combinations;
 #[cfg(test)]
 mod compared;
+#[cfg(test)]
+mod conversions;
 #[cfg(test)]
 mod entries;
 pub mod equality;
@@ -17,15 +19,33 @@ mod extensions;
 #[cfg(test)]
 mod info;
 #[cfg(test)]
+mod media;
+#[cfg(test)]
 mod numbers;
 #[cfg(test)]
+mod operation_parts;
+#[cfg(test)]
+mod operations;
+#[cfg(test)]
 mod ordered_maps;
+#[cfg(test)]
+mod path_items;
 #[cfg(test)]
 mod printed;
 #[cfg(test)]
 mod references;
 #[cfg(test)]
 mod rows;
+#[cfg(test)]
+mod schema_arrays;
+#[cfg(test)]
+mod schema_objects;
+#[cfg(test)]
+mod schema_parts;
+#[cfg(test)]
+mod schema_texts;
+#[cfg(test)]
+mod schema_words;
 #[cfg(test)]
 mod security_flows;
 #[cfg(test)]
@@ -38,3 +58,5 @@ mod shared;
 mod tag;
 #[cfg(test)]
 mod words;
+#[cfg(test)]
+mod xml;

@@ -4,6 +4,7 @@
 //! crates of tests share stands in each.
 use serde_json::Value;
 use std::process::Abort;
+use std::vec::IntoIter;
 use utoipa_base::{Extensions, ReadFault, Readings, Tree};
 
 pub fn text(rt: &(impl Abort + AllocGlobal), word: &str) -> String {
@@ -12,6 +13,14 @@ pub fn text(rt: &(impl Abort + AllocGlobal), word: &str) -> String {
 
 pub fn tree(rt: &(impl Abort + AllocGlobal), json: &str) -> Value {
     Value::from_str(rt.alloc(), json).expect(rt, "a tree")
+}
+
+/// Two values, one after the other.
+pub fn two<T: Drop>(rt: &(impl Abort + AllocGlobal), first: T, second: T) -> IntoIter<T> {
+    let mut items = Vec::new(rt.alloc());
+    items.push(first).expect(rt, "memory for an item");
+    items.push(second).expect(rt, "memory for an item");
+    items.into_iter()
 }
 
 /// What a text reads as. An extension may hold a fraction.

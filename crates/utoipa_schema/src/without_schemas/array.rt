@@ -8,11 +8,12 @@ ghost use Rattle.utoipa_base.specs.Writing.{write_rows};
 ghost use Rattle.utoipa_schema.specs.Parts.{head_of_array, annotations_of_array, item_limits_and_representation_of_array, array_head_rows, array_head_docs, array_annotation_rows, array_annotation_docs, item_limit_and_representation_rows, item_limit_and_representation_docs};
 
 use crate::types::Array;
-use crate::without_schemas::{read_part, write_part};
+use crate::without_schemas::{read_part, write_each, write_row};
 use serde_json::{Map, Value};
 use std::alloc::{AllocError, Global};
 use utoipa_base::{
-    Deprecated, ReadFault, Tree, clone_table_alone, from_fields_alone, row_names, row_values,
+    Deprecated, ReadFault, Tree, clone_table_alone, from_fields_alone, row_names, write_option,
+    write_required, write_unless_empty,
 };
 use utoipa_schema_parts::{SchemaType, Xml};
 
@@ -57,8 +58,7 @@ pub(crate) fn write_array_head(
         ≡ write_rows (array_head_docs (head_of_array array.now)) array_head_rows
         (members_view members.old.entries)) }
 {
-    let names = array_head_rows!(row_names!());
-    write_part(members, alloc, names, &array_head_rows!(row_values!(array)))
+    array_head_rows!(write_each!(members, alloc, array))
 }
 
 /// Copies the members of an [`ArrayHead`]. Fails where memory runs out.
@@ -122,13 +122,7 @@ pub(crate) fn write_array_annotations(
         ≡ write_rows (array_annotation_docs (annotations_of_array array.now)) array_annotation_rows
         (members_view members.old.entries)) }
 {
-    let names = array_annotation_rows!(row_names!());
-    write_part(
-        members,
-        alloc,
-        names,
-        &array_annotation_rows!(row_values!(array)),
-    )
+    array_annotation_rows!(write_each!(members, alloc, array))
 }
 
 /// Copies the members of an [`ArrayAnnotations`]. Fails where memory runs out.
@@ -203,13 +197,7 @@ pub(crate) fn write_item_limits_and_representation(
         ≡ write_rows (item_limit_and_representation_docs (item_limits_and_representation_of_array array.now)) item_limit_and_representation_rows
         (members_view members.old.entries)) }
 {
-    let names = item_limit_and_representation_rows!(row_names!());
-    write_part(
-        members,
-        alloc,
-        names,
-        &item_limit_and_representation_rows!(row_values!(array)),
-    )
+    item_limit_and_representation_rows!(write_each!(members, alloc, array))
 }
 
 /// Copies the members of an [`ItemLimitsAndRepresentation`]. Fails where memory runs out.

@@ -7,11 +7,12 @@ ghost use Rattle.utoipa_base.specs.Rows.{part};
 ghost use Rattle.utoipa_base.specs.Writing.{write_rows};
 ghost use Rattle.utoipa_schema.specs.Parts.{combination_of, combination_rows, combination_docs};
 
-use crate::without_schemas::{read_part, write_part};
+use crate::without_schemas::read_part;
 use serde_json::{Map, Value};
 use std::alloc::{AllocError, Global};
-use utoipa_base::table::{DefaultedValue, OptionalValue};
-use utoipa_base::{ReadFault, Tree, clone_option, from_fields_alone, row_names};
+use utoipa_base::{
+    ReadFault, Tree, clone_option, from_fields_alone, row_names, write_option, write_unless_empty,
+};
 use utoipa_schema_parts::Discriminator;
 
 // The rows that combinations share: mark, member, field.
@@ -69,13 +70,12 @@ pub(crate) fn write_combination(
         ≡ write_rows (combination_docs (combination_of description.now default.now example.now examples.now discriminator.now))
         combination_rows (members_view members.old.entries)) }
 {
-    let last = (OptionalValue(discriminator), ());
-    let examples = (OptionalValue(example), (DefaultedValue(examples), last));
-    let values = (
-        OptionalValue(description),
-        (OptionalValue(default), examples),
-    );
-    write_part(members, alloc, combination_rows!(row_names!()), &values)
+    write_option(members, alloc, "description", description)?;
+    write_option(members, alloc, "default", default)?;
+    write_option(members, alloc, "example", example)?;
+    write_unless_empty(members, alloc, "examples", examples)?;
+    write_option(members, alloc, "discriminator", discriminator)?;
+    Ok(())
 }
 
 /// Copies the members of a [`Combination`]. Fails where memory runs out.

@@ -5,15 +5,15 @@ ghost use Rattle.utoipa_base.specs.Docs.{list_doc};
 ghost use Rattle.utoipa_base.specs.Faults.{Refuses};
 ghost use Rattle.utoipa_base.specs.Rows.{part};
 ghost use Rattle.utoipa_base.specs.Writing.{write_rows};
-ghost use Rattle.utoipa_schema.specs.Parts.{head_of_object, annotations_of_object, number_limits_of_object, size_limits_and_content_of_object, object_head_rows, object_head_docs, object_annotation_rows, object_annotation_docs, number_limit_rows, number_limit_docs, size_limit_and_content_rows, size_limit_and_content_docs};
+ghost use Rattle.utoipa_schema.specs.Parts.{head_of_object, annotations_of_object, number_limits_of_object, size_limits_and_content_of_object, object_head_rows, object_head_docs, object_annotation_rows, object_annotation_docs, number_limit_rows, number_limit_docs, size_limit_and_content_rows, size_limit_and_content_docs, IsCopyOfParts};
 
 use crate::types::Object;
-use crate::without_schemas::{read_part, write_part};
+use crate::without_schemas::{read_part, write_each, write_row};
 use serde_json::{Map, Value};
 use std::alloc::{AllocError, Global};
 use utoipa_base::{
-    Deprecated, Number, ReadFault, Tree, clone_table_alone, from_fields_alone, row_names,
-    row_values,
+    Deprecated, Extensions, Number, ReadFault, Tree, clone_extensions, clone_table_alone,
+    from_fields_alone, row_names, write_option, write_unless_empty,
 };
 use utoipa_schema_parts::{SchemaFormat, SchemaType, Xml};
 
@@ -73,13 +73,7 @@ pub(crate) fn write_object_head(
         ≡ write_rows (object_head_docs (head_of_object object.now)) object_head_rows
         (members_view members.old.entries)) }
 {
-    let names = object_head_rows!(row_names!());
-    write_part(
-        members,
-        alloc,
-        names,
-        &object_head_rows!(row_values!(object)),
-    )
+    object_head_rows!(write_each!(members, alloc, object))
 }
 
 /// Copies the members of an [`ObjectHead`]. Fails where memory runs out.
@@ -146,13 +140,7 @@ pub(crate) fn write_object_annotations(
         ≡ write_rows (object_annotation_docs (annotations_of_object object.now)) object_annotation_rows
         (members_view members.old.entries)) }
 {
-    let names = object_annotation_rows!(row_names!());
-    write_part(
-        members,
-        alloc,
-        names,
-        &object_annotation_rows!(row_values!(object)),
-    )
+    object_annotation_rows!(write_each!(members, alloc, object))
 }
 
 /// Copies the members of an [`ObjectAnnotations`]. Fails where memory runs out.
@@ -216,13 +204,7 @@ pub(crate) fn write_number_limits(
         ≡ write_rows (number_limit_docs (number_limits_of_object object.now)) number_limit_rows
         (members_view members.old.entries)) }
 {
-    let names = number_limit_rows!(row_names!());
-    write_part(
-        members,
-        alloc,
-        names,
-        &number_limit_rows!(row_values!(object)),
-    )
+    number_limit_rows!(write_each!(members, alloc, object))
 }
 
 /// Copies the members of a [`NumberLimits`]. Fails where memory runs out.
@@ -295,13 +277,7 @@ pub(crate) fn write_size_limits_and_content(
         ≡ write_rows (size_limit_and_content_docs (size_limits_and_content_of_object object.now)) size_limit_and_content_rows
         (members_view members.old.entries)) }
 {
-    let names = size_limit_and_content_rows!(row_names!());
-    write_part(
-        members,
-        alloc,
-        names,
-        &size_limit_and_content_rows!(row_values!(object)),
-    )
+    size_limit_and_content_rows!(write_each!(members, alloc, object))
 }
 
 /// Copies the members of a [`SizeLimitsAndContent`]. Fails where memory runs out.
@@ -312,4 +288,39 @@ pub(crate) fn clone_size_limits_and_content(
     ensures { IfOk result (λ copy. size_limit_and_content_docs copy ≡ size_limit_and_content_docs (size_limits_and_content_of_object object.now)) }
 {
     size_limit_and_content_rows!(clone_table_alone!(SizeLimitsAndContent, object, alloc))
+}
+
+/// The members of an [`Object`](crate::Object) that hold no schema, in parts, and its extensions, as they are
+/// copied.
+#[derive(Drop)]
+pub(crate) struct ObjectParts {
+    /// The members before `properties`.
+    pub(crate) head: ObjectHead,
+    /// The members from `deprecated` to `xml`.
+    pub(crate) annotations: ObjectAnnotations,
+    /// The members that limit a number.
+    pub(crate) numbers: NumberLimits,
+    /// The members from `maxLength` to `contentMediaType`.
+    pub(crate) sizes: SizeLimitsAndContent,
+    /// Specification extensions.
+    pub(crate) extensions: Option<Extensions>,
+}
+
+/// Copies the members of an [`ObjectParts`]. Fails where memory runs out.
+pub(crate) fn clone_object_parts(alloc: Global, object: &Object) -> Result<ObjectParts, AllocError>
+    ensures { IfOk result (IsCopyOfParts object.now) }
+{
+    // In an order in which little is let go where a later part fails.
+    let numbers = clone_number_limits(alloc, object)?;
+    let sizes = clone_size_limits_and_content(alloc, object)?;
+    let annotations = clone_object_annotations(alloc, object)?;
+    let extensions = clone_extensions(alloc, &object.extensions)?;
+    let head = clone_object_head(alloc, object)?;
+    Ok(ObjectParts {
+        head,
+        annotations,
+        numbers,
+        sizes,
+        extensions,
+    })
 }

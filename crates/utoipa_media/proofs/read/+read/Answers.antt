@@ -5,6 +5,7 @@ use Rattle.std.specs.List.Sorted.{IsStrictlySortedBy}
 use Rattle.std.specs.Map.{keys_of}
 use Rattle.serde_json.specs.Find.{get, as_array, as_object}
 use Rattle.serde_json.specs.View.{view, items_view, members_view}
+use Rattle.utoipa_base.specs.Docs.{list_doc}
 use Rattle.utoipa_base.specs.Faults.{fitting}
 use Rattle.utoipa_base.specs.Kinds.{named, ref_or, list_of, map_of, reference_object, media_type_object, encoding_object, header_object}
 use Rattle.utoipa_base.specs.Reading.{read, is_null}
@@ -15,17 +16,19 @@ use Rattle.utoipa_base.proofs.AbsentMembers.{list_absent, map_absent}
 use Rattle.utoipa_base.proofs.Alternatives.{ref_reads, own_reads}
 use Rattle.utoipa_base.proofs.ByRows.{null_as, table_refused, fields-first, fields-later}
 use Rattle.utoipa_base.proofs.Members.{member_at, count_at, list_none, map_none}
+use Rattle.utoipa_base.proofs.PartsRead.{part_as, parts_fewer}
 use Rattle.utoipa_base.proofs.Places.{own_none, own_places, reference_uncounted}
 use Rattle.utoipa_base.proofs.Readers.{refused_unread, passes_refusal, passes_memory, reads_value, member_fewer, defaulted_read, optional_read, optional_refused, optional_null, optional_absent, item_fewer, entry_fewer}
-use Rattle.utoipa_base.proofs.ReadingLists.{list_begun, list_step, list_refused, list_within, list_read}
-use Rattle.utoipa_base.proofs.ReadingMaps.{map_begun, map_step, map_refused, map_within, map_within_next, map_read}
-use Rattle.utoipa_base.proofs.RowLists.{passes_reads}
-use Rattle.utoipa_base.proofs.TableParts.{join-later}
+use Rattle.utoipa_base.proofs.ReadingLists.{list_begun, list_step, list_read}
+use Rattle.utoipa_base.proofs.ReadingMaps.{map_begun, map_step, map_read}
+use Rattle.utoipa_base.proofs.RowLists.{first_refused, later_refused, passes_reads, reads_as}
+use Rattle.utoipa_base.proofs.TableParts.{join-later, no_fields_of_part}
 use Rattle.utoipa_base.proofs.Tried.{fits_as, fits_not}
 use Rattle.utoipa_media.specs.Docs.{content_doc, encoding_doc, header_doc}
-use Rattle.utoipa_media.specs.Parts.{content_rows, encoding_head_rows, encoding_style_rows, header_rows}
+use Rattle.utoipa_media.specs.Parts.{content_rows, encoding_head_rows, encoding_style_rows, encodings_docs, encodings_rows, header_rows}
+use Rattle.utoipa_media.proofs.Beside.{list_item_refused, map_entry_refused, reads_fault}
 use Rattle.utoipa_media.proofs.Counts.{encoding_values, header_values}
-use Rattle.utoipa_media.proofs.EncodingParts.{encodings_read}
+use Rattle.utoipa_media.proofs.EncodingParts.{encoding_parts_fewer, encodings_read}
 use Rattle.utoipa_media.proofs.read.+read.Goals as goal
 
 pub read_encodings_by_name-read_encoding_map-requires : goal.read_encodings_by_name-read_encoding_map-requires
@@ -142,18 +145,15 @@ pub read_encoding_list-loop-item-init : goal.read_encoding_list-loop-item-init
 read_encoding_list-loop-item-init t c = list_begun (named encoding_object) encoding_doc _ _ _ (search rules)
 
 pub read_encoding_list-loop-item-preserved : goal.read_encoding_list-loop-item-preserved
-read_encoding_list-loop-item-preserved t c = list_step (named encoding_object) encoding_doc _ _ _ _ _ _ _ _ _ c.loop-item.invariant (omega arith) c.item-item.is c.in_ok-read_encoding.ensures c.in_ok-push.ensures.items
+read_encoding_list-loop-item-preserved t c =
+    let pushed = c.in_ok-push_read.ensures.ok in
+    list_step (named encoding_object) encoding_doc _ _ _ _ _ _ _ _ pushed.0 c.loop-item.invariant (omega arith) c.item-item.is
+    (reads_value encoding_doc _ c.read_encoding.result pushed.0 _ _ _ c.read_encoding.ensures pushed.1) pushed.2
 
-pub read_encoding_list-returns-in_err-read_encoding : goal.read_encoding_list-returns-in_err-read_encoding
-read_encoding_list-returns-in_err-read_encoding t c =
+pub read_encoding_list-returns-in_err-push_read : goal.read_encoding_list-returns-in_err-push_read
+read_encoding_list-returns-in_err-push_read t c =
     let is : Some (items_view c.deref-item-items.result.now) ≡ as_array (view c.args.tree.now) = ap (λ vs. Some (items_view vs)) c.deref-item-items.ensures.value ∙ c.in-Some.ensures in
-    list_refused (named encoding_object) encoding_doc _ _ _ _ _ _ _ _ _ _ _ c.loop-item.invariant (omega arith) c.item-item.is is c.from_residual.ensures.1 c.in_err-read_encoding.ensures
-
-pub read_encoding_list-returns-in_err-push : goal.read_encoding_list-returns-in_err-push
-read_encoding_list-returns-in_err-push t c =
-    let is : Some (items_view c.deref-item-items.result.now) ≡ as_array (view c.args.tree.now) = ap (λ vs. Some (items_view vs)) c.deref-item-items.ensures.value ∙ c.in-Some.ensures in
-    let within = list_within (named encoding_object) encoding_doc _ _ _ _ _ _ _ _ _ c.loop-item.invariant (omega arith) c.item-item.is is c.in_ok-read_encoding.ensures in
-    passes_refusal (list_of_docs encoding_doc) _ Memory _ _ _ _ c.from_residual-in_err-push.ensures.1 tt within.0 within.1
+    list_item_refused (named encoding_object) encoding_doc _ _ _ _ _ _ _ _ _ _ _ c.read_encoding.result c.loop-item.invariant (omega arith) c.item-item.is is c.from_residual.ensures.1 c.in_err-push_read.ensures.err c.read_encoding.ensures
 
 pub read_encoding_list-returns : goal.read_encoding_list-returns
 read_encoding_list-returns t c =
@@ -179,27 +179,15 @@ pub read_encoding_map-loop-key-preserved : goal.read_encoding_map-loop-key-prese
 read_encoding_map-loop-key-preserved t c =
     let all : c.into_iter-key-iterator.result ≡ c.in-Some.members.now.entries = c.into_iter-key-iterator.ensures.into_iter_gives ∙ c.iter-key-items.ensures.rest in
     let ordered = subst (λ r. IsStrictlySortedBy string_cmp (keys_of r)) (sym all) c.iter-key-items.ensures.ordered in
-    map_step (named encoding_object) encoding_doc _ _ _ _ _ _ _ _ _ _ _ c.loop-key.invariant c.in-Some-2.ensures.steps ordered c.in_ok-name.ensures.cases c.in_ok-insert.ensures.entries c.in_ok-value.ensures
+    let put = c.in_ok-put_read.ensures.ok in
+    map_step (named encoding_object) encoding_doc _ _ _ _ _ _ _ _ _ put.0 put.1 c.loop-key.invariant c.in-Some-2.ensures.steps ordered put.2 put.4
+    (reads_value encoding_doc _ c.read_encoding.result put.1 _ _ _ c.read_encoding.ensures put.3)
 
-pub read_encoding_map-returns-in_err-name : goal.read_encoding_map-returns-in_err-name
-read_encoding_map-returns-in_err-name t c =
+pub read_encoding_map-returns-in_err-put_read : goal.read_encoding_map-returns-in_err-put_read
+read_encoding_map-returns-in_err-put_read t c =
     let all : c.into_iter-key-iterator.result ≡ c.in-Some.members.now.entries = c.into_iter-key-iterator.ensures.into_iter_gives ∙ c.iter-key-items.ensures.rest in
     let is : Some (members_view c.into_iter-key-iterator.result) ≡ as_object (view c.args.tree.now) = ap (λ vs. Some (members_view vs)) all ∙ c.in-Some.ensures in
-    let within = map_within (named encoding_object) encoding_doc _ _ _ _ _ _ c.loop-key.invariant is in
-    passes_refusal (map_of_docs encoding_doc) _ Memory _ _ _ _ c.from_residual.ensures.1 tt within.0 within.1
-
-pub read_encoding_map-returns-in_err-value : goal.read_encoding_map-returns-in_err-value
-read_encoding_map-returns-in_err-value t c =
-    let all : c.into_iter-key-iterator.result ≡ c.in-Some.members.now.entries = c.into_iter-key-iterator.ensures.into_iter_gives ∙ c.iter-key-items.ensures.rest in
-    let is : Some (members_view c.into_iter-key-iterator.result) ≡ as_object (view c.args.tree.now) = ap (λ vs. Some (members_view vs)) all ∙ c.in-Some.ensures in
-    map_refused (named encoding_object) encoding_doc _ _ _ _ _ _ _ _ _ _ _ _ c.loop-key.invariant c.in-Some-2.ensures.steps is c.from_residual-in_err-value.ensures.1 c.in_err-value.ensures
-
-pub read_encoding_map-returns-in_err-insert : goal.read_encoding_map-returns-in_err-insert
-read_encoding_map-returns-in_err-insert t c =
-    let all : c.into_iter-key-iterator.result ≡ c.in-Some.members.now.entries = c.into_iter-key-iterator.ensures.into_iter_gives ∙ c.iter-key-items.ensures.rest in
-    let is : Some (members_view c.into_iter-key-iterator.result) ≡ as_object (view c.args.tree.now) = ap (λ vs. Some (members_view vs)) all ∙ c.in-Some.ensures in
-    let within = map_within_next (named encoding_object) encoding_doc _ _ _ _ _ _ _ _ _ _ c.loop-key.invariant c.in-Some-2.ensures.steps is c.in_ok-value.ensures in
-    passes_refusal (map_of_docs encoding_doc) _ Memory _ _ _ _ c.from_residual-in_err-insert.ensures.1 tt within.0 within.1
+    map_entry_refused (named encoding_object) encoding_doc _ _ _ _ _ _ _ _ _ _ _ _ c.read_encoding.result c.loop-key.invariant c.in-Some-2.ensures.steps is c.from_residual.ensures.1 c.in_err-put_read.ensures.err c.read_encoding.ensures
 
 pub read_encoding_map-returns : goal.read_encoding_map-returns
 read_encoding_map-returns t c =
@@ -225,27 +213,15 @@ pub read_header_map-loop-key-preserved : goal.read_header_map-loop-key-preserved
 read_header_map-loop-key-preserved t c =
     let all : c.into_iter-key-iterator.result ≡ c.in-Some.members.now.entries = c.into_iter-key-iterator.ensures.into_iter_gives ∙ c.iter-key-items.ensures.rest in
     let ordered = subst (λ r. IsStrictlySortedBy string_cmp (keys_of r)) (sym all) c.iter-key-items.ensures.ordered in
-    map_step (ref_or (named header_object)) (ref_or_doc (named header_object) header_doc) _ _ _ _ _ _ _ _ _ _ _ c.loop-key.invariant c.in-Some-2.ensures.steps ordered c.in_ok-name.ensures.cases c.in_ok-insert.ensures.entries c.in_ok-value.ensures
+    let put = c.in_ok-put_read.ensures.ok in
+    map_step (ref_or (named header_object)) (ref_or_doc (named header_object) header_doc) _ _ _ _ _ _ _ _ _ put.0 put.1 c.loop-key.invariant c.in-Some-2.ensures.steps ordered put.2 put.4
+    (reads_value (ref_or_doc (named header_object) header_doc) _ c.read_ref_or_header.result put.1 _ _ _ c.read_ref_or_header.ensures put.3)
 
-pub read_header_map-returns-in_err-name : goal.read_header_map-returns-in_err-name
-read_header_map-returns-in_err-name t c =
+pub read_header_map-returns-in_err-put_read : goal.read_header_map-returns-in_err-put_read
+read_header_map-returns-in_err-put_read t c =
     let all : c.into_iter-key-iterator.result ≡ c.in-Some.members.now.entries = c.into_iter-key-iterator.ensures.into_iter_gives ∙ c.iter-key-items.ensures.rest in
     let is : Some (members_view c.into_iter-key-iterator.result) ≡ as_object (view c.args.tree.now) = ap (λ vs. Some (members_view vs)) all ∙ c.in-Some.ensures in
-    let within = map_within (ref_or (named header_object)) (ref_or_doc (named header_object) header_doc) _ _ _ _ _ _ c.loop-key.invariant is in
-    passes_refusal (map_of_docs (ref_or_doc (named header_object) header_doc)) _ Memory _ _ _ _ c.from_residual.ensures.1 tt within.0 within.1
-
-pub read_header_map-returns-in_err-value : goal.read_header_map-returns-in_err-value
-read_header_map-returns-in_err-value t c =
-    let all : c.into_iter-key-iterator.result ≡ c.in-Some.members.now.entries = c.into_iter-key-iterator.ensures.into_iter_gives ∙ c.iter-key-items.ensures.rest in
-    let is : Some (members_view c.into_iter-key-iterator.result) ≡ as_object (view c.args.tree.now) = ap (λ vs. Some (members_view vs)) all ∙ c.in-Some.ensures in
-    map_refused (ref_or (named header_object)) (ref_or_doc (named header_object) header_doc) _ _ _ _ _ _ _ _ _ _ _ _ c.loop-key.invariant c.in-Some-2.ensures.steps is c.from_residual-in_err-value.ensures.1 c.in_err-value.ensures
-
-pub read_header_map-returns-in_err-insert : goal.read_header_map-returns-in_err-insert
-read_header_map-returns-in_err-insert t c =
-    let all : c.into_iter-key-iterator.result ≡ c.in-Some.members.now.entries = c.into_iter-key-iterator.ensures.into_iter_gives ∙ c.iter-key-items.ensures.rest in
-    let is : Some (members_view c.into_iter-key-iterator.result) ≡ as_object (view c.args.tree.now) = ap (λ vs. Some (members_view vs)) all ∙ c.in-Some.ensures in
-    let within = map_within_next (ref_or (named header_object)) (ref_or_doc (named header_object) header_doc) _ _ _ _ _ _ _ _ _ _ c.loop-key.invariant c.in-Some-2.ensures.steps is c.in_ok-value.ensures in
-    passes_refusal (map_of_docs (ref_or_doc (named header_object) header_doc)) _ Memory _ _ _ _ c.from_residual-in_err-insert.ensures.1 tt within.0 within.1
+    map_entry_refused (ref_or (named header_object)) (ref_or_doc (named header_object) header_doc) _ _ _ _ _ _ _ _ _ _ _ _ c.read_ref_or_header.result c.loop-key.invariant c.in-Some-2.ensures.steps is c.from_residual.ensures.1 c.in_err-put_read.ensures.err c.read_ref_or_header.ensures
 
 pub read_header_map-returns : goal.read_header_map-returns
 read_header_map-returns t c =
@@ -271,27 +247,15 @@ pub read_content_map-loop-key-preserved : goal.read_content_map-loop-key-preserv
 read_content_map-loop-key-preserved t c =
     let all : c.into_iter-key-iterator.result ≡ c.in-Some.members.now.entries = c.into_iter-key-iterator.ensures.into_iter_gives ∙ c.iter-key-items.ensures.rest in
     let ordered = subst (λ r. IsStrictlySortedBy string_cmp (keys_of r)) (sym all) c.iter-key-items.ensures.ordered in
-    map_step (ref_or (named media_type_object)) (ref_or_doc (named media_type_object) content_doc) _ _ _ _ _ _ _ _ _ _ _ c.loop-key.invariant c.in-Some-2.ensures.steps ordered c.in_ok-name.ensures.cases c.in_ok-insert.ensures.entries c.in_ok-value.ensures
+    let put = c.in_ok-put_read.ensures.ok in
+    map_step (ref_or (named media_type_object)) (ref_or_doc (named media_type_object) content_doc) _ _ _ _ _ _ _ _ _ put.0 put.1 c.loop-key.invariant c.in-Some-2.ensures.steps ordered put.2 put.4
+    (reads_value (ref_or_doc (named media_type_object) content_doc) _ c.read_ref_or_content.result put.1 _ _ _ c.read_ref_or_content.ensures put.3)
 
-pub read_content_map-returns-in_err-name : goal.read_content_map-returns-in_err-name
-read_content_map-returns-in_err-name t c =
+pub read_content_map-returns-in_err-put_read : goal.read_content_map-returns-in_err-put_read
+read_content_map-returns-in_err-put_read t c =
     let all : c.into_iter-key-iterator.result ≡ c.in-Some.members.now.entries = c.into_iter-key-iterator.ensures.into_iter_gives ∙ c.iter-key-items.ensures.rest in
     let is : Some (members_view c.into_iter-key-iterator.result) ≡ as_object (view c.args.tree.now) = ap (λ vs. Some (members_view vs)) all ∙ c.in-Some.ensures in
-    let within = map_within (ref_or (named media_type_object)) (ref_or_doc (named media_type_object) content_doc) _ _ _ _ _ _ c.loop-key.invariant is in
-    passes_refusal (map_of_docs (ref_or_doc (named media_type_object) content_doc)) _ Memory _ _ _ _ c.from_residual.ensures.1 tt within.0 within.1
-
-pub read_content_map-returns-in_err-value : goal.read_content_map-returns-in_err-value
-read_content_map-returns-in_err-value t c =
-    let all : c.into_iter-key-iterator.result ≡ c.in-Some.members.now.entries = c.into_iter-key-iterator.ensures.into_iter_gives ∙ c.iter-key-items.ensures.rest in
-    let is : Some (members_view c.into_iter-key-iterator.result) ≡ as_object (view c.args.tree.now) = ap (λ vs. Some (members_view vs)) all ∙ c.in-Some.ensures in
-    map_refused (ref_or (named media_type_object)) (ref_or_doc (named media_type_object) content_doc) _ _ _ _ _ _ _ _ _ _ _ _ c.loop-key.invariant c.in-Some-2.ensures.steps is c.from_residual-in_err-value.ensures.1 c.in_err-value.ensures
-
-pub read_content_map-returns-in_err-insert : goal.read_content_map-returns-in_err-insert
-read_content_map-returns-in_err-insert t c =
-    let all : c.into_iter-key-iterator.result ≡ c.in-Some.members.now.entries = c.into_iter-key-iterator.ensures.into_iter_gives ∙ c.iter-key-items.ensures.rest in
-    let is : Some (members_view c.into_iter-key-iterator.result) ≡ as_object (view c.args.tree.now) = ap (λ vs. Some (members_view vs)) all ∙ c.in-Some.ensures in
-    let within = map_within_next (ref_or (named media_type_object)) (ref_or_doc (named media_type_object) content_doc) _ _ _ _ _ _ _ _ _ _ c.loop-key.invariant c.in-Some-2.ensures.steps is c.in_ok-value.ensures in
-    passes_refusal (map_of_docs (ref_or_doc (named media_type_object) content_doc)) _ Memory _ _ _ _ c.from_residual-in_err-insert.ensures.1 tt within.0 within.1
+    map_entry_refused (ref_or (named media_type_object)) (ref_or_doc (named media_type_object) content_doc) _ _ _ _ _ _ _ _ _ _ _ _ c.read_ref_or_content.result c.loop-key.invariant c.in-Some-2.ensures.steps is c.from_residual.ensures.1 c.in_err-put_read.ensures.err c.read_ref_or_content.ensures
 
 pub read_content_map-returns : goal.read_content_map-returns
 read_content_map-returns t c =
@@ -367,29 +331,47 @@ read_ref_or_header-returns t c =
       at_least = λ below. omega (arith, own.at_least below, own_places (header_doc c.in_ok-read_header.field-0));
     }
 
-pub read_content-returns-in_err-encoding : goal.read_content-returns-in_err-encoding
-read_content-returns-in_err-encoding t c =
-    passes_reads _ _ _ _ _ _ _ _ _ _ _ c.from_residual.ensures.1 c.in_err-encoding.ensures
-    (λ h. table_refused media_type_object _ (join-later content_rows _ _ (fields-first _ _ _ h)))
+pub read_encodings-returns-in_err-by_name : goal.read_encodings-returns-in_err-by_name
+read_encodings-returns-in_err-by_name t c =
+    passes_reads _ _ _ _ _ _ _ _ _ _ _ c.from_residual.ensures.1 c.in_err-by_name.ensures
+    (first_refused _ _ _)
     (omega arith)
-    (omega (arith, encoding_values (view c.args.tree.now)))
+    (omega arith)
 
-pub read_content-returns-in_err-prefix_encoding : goal.read_content-returns-in_err-prefix_encoding
-read_content-returns-in_err-prefix_encoding t c =
-    passes_reads _ _ _ _ _ _ _ _ _ _ _ c.from_residual-in_err-prefix_encoding.ensures.1 c.in_err-prefix_encoding.ensures
-    (λ h. table_refused media_type_object _ (join-later content_rows _ _ (fields-later _ _ _ (fields-first _ _ _ h))))
-    (omega (arith, c.in_ok-encoding.ensures.grows))
-    (omega (arith, encoding_values (view c.args.tree.now), c.in_ok-encoding.ensures.at_most))
+pub read_encodings-returns-in_err-by_name-2 : goal.read_encodings-returns-in_err-by_name-2
+read_encodings-returns-in_err-by_name-2 t c =
+    passes_reads _ _ _ _ _ _ _ _ _ _ _ c.from_residual-in_err-by_name-2.ensures.1 (reads_fault _ _ _ _ _ _ _ c.read_first_encodings.ensures c.in_err-by_name-2.ensures.err)
+    (λ h. later_refused _ _ _ (first_refused _ _ _ h))
+    (omega (arith, c.in_ok-by_name.ensures.grows))
+    (omega (arith, c.in_ok-by_name.ensures.at_most))
 
-pub read_content-returns-in_err-item_encoding : goal.read_content-returns-in_err-item_encoding
-read_content-returns-in_err-item_encoding t c =
-    passes_reads _ _ _ _ _ _ _ _ _ _ _ c.from_residual-in_err-item_encoding.ensures.1 c.in_err-item_encoding.ensures
-    (λ h. table_refused media_type_object _ (join-later content_rows _ _ (fields-later _ _ _ (fields-later _ _ _ (fields-first _ _ _ h)))))
-    (omega (arith, c.in_ok-encoding.ensures.grows, c.in_ok-prefix_encoding.ensures.grows))
-    (omega (arith, encoding_values (view c.args.tree.now), c.in_ok-encoding.ensures.at_most, c.in_ok-prefix_encoding.ensures.at_most))
+pub read_encodings-returns-in_err-by_name-3 : goal.read_encodings-returns-in_err-by_name-3
+read_encodings-returns-in_err-by_name-3 t c =
+    passes_reads _ _ _ _ _ _ _ _ _ _ _ c.from_residual-in_err-by_name-3.ensures.1 (reads_fault _ _ _ _ _ _ _ c.read_item_encoding.ensures c.in_err-by_name-3.ensures.err)
+    (λ h. later_refused _ _ _ (later_refused _ _ _ (first_refused _ _ _ h)))
+    (omega (arith, c.in_ok-by_name.ensures.grows, c.read_first_encodings.ensures.grows))
+    (omega (arith, c.in_ok-by_name.ensures.at_most, c.read_first_encodings.ensures.at_most))
+
+pub read_encodings-returns : goal.read_encodings-returns
+read_encodings-returns t c =
+    let by_name = c.in_ok-by_name.by_name in
+    let first = c.in_ok-by_name-2.first in
+    let rest = c.in_ok-by_name-3.rest in
+    let first_read = reads_value (list_of_docs encoding_doc) _ c.read_first_encodings.result first _ _ _ c.read_first_encodings.ensures c.in_ok-by_name-2.ensures.ok.1 in
+    let rest_read = reads_value (option_of (boxed encoding_doc)) _ c.read_item_encoding.result rest _ _ _ c.read_item_encoding.ensures c.in_ok-by_name-3.ensures.ok.1 in
+    let all = encodings_read (view c.args.tree.now) by_name first rest _ _ _ _ c.in_ok-by_name.ensures first_read rest_read in
+    let same = ap (λ k. list_doc (encodings_docs k.0 k.1 rest)) c.in_ok-by_name-3.ensures.ok.0 ∙ ap (λ b. list_doc (encodings_docs b first rest)) c.in_ok-by_name-2.ensures.ok.0 in
+    reads_as _ _ _ _ _ _ _ _ (sym same) all
+
+pub read_content-returns-in_err-encodings : goal.read_content-returns-in_err-encodings
+read_content-returns-in_err-encodings t c =
+    passes_reads _ _ _ _ _ _ _ _ _ _ _ c.from_residual.ensures.1 c.in_err-encodings.ensures
+    (λ h. table_refused media_type_object _ (join-later content_rows encodings_rows _ (no_fields_of_part encodings_rows _ h)))
+    (omega arith)
+    (omega (arith, parts_fewer media_type_object content_rows encodings_rows (view c.args.tree.now) refl))
 
 pub read_content-returns : goal.read_content-returns
-read_content-returns t c = c.assemble_content.ensures _ (encodings_read _ _ _ _ _ _ _ _ c.in_ok-encoding.ensures c.in_ok-prefix_encoding.ensures c.in_ok-item_encoding.ensures)
+read_content-returns t c = c.assemble_content.ensures _ (part_as _ encodings_rows _ c.in_ok-encodings.encodings _ _ c.in_ok-encodings.ensures)
 
 pub read_encoding-returns-in_err-headers : goal.read_encoding-returns-in_err-headers
 read_encoding-returns-in_err-headers t c =
@@ -398,29 +380,20 @@ read_encoding-returns-in_err-headers t c =
     (omega arith)
     (omega (arith, encoding_values (view c.args.tree.now)))
 
-pub read_encoding-returns-in_err-encoding : goal.read_encoding-returns-in_err-encoding
-read_encoding-returns-in_err-encoding t c =
-    passes_reads _ _ _ _ _ _ _ _ _ _ _ c.from_residual-in_err-encoding.ensures.1 c.in_err-encoding.ensures
-    (λ h. table_refused encoding_object _ (join-later encoding_head_rows _ _ (fields-later _ _ _ (join-later encoding_style_rows _ _ (fields-first _ _ _ h)))))
+pub read_encoding-returns-in_err-headers-2 : goal.read_encoding-returns-in_err-headers-2
+read_encoding-returns-in_err-headers-2 t c =
+    passes_reads _ _ _ _ _ _ _ _ _ _ _ c.from_residual-in_err-headers-2.ensures.1 (reads_fault _ _ _ _ _ _ _ c.read_encodings.ensures c.in_err-headers-2.ensures.err)
+    (λ h. table_refused encoding_object _ (join-later encoding_head_rows _ _ (fields-later _ _ _ (join-later encoding_style_rows _ _ (no_fields_of_part encodings_rows _ h)))))
     (omega (arith, c.in_ok-headers.ensures.grows))
-    (omega (arith, encoding_values (view c.args.tree.now), c.in_ok-headers.ensures.at_most))
-
-pub read_encoding-returns-in_err-prefix_encoding : goal.read_encoding-returns-in_err-prefix_encoding
-read_encoding-returns-in_err-prefix_encoding t c =
-    passes_reads _ _ _ _ _ _ _ _ _ _ _ c.from_residual-in_err-prefix_encoding.ensures.1 c.in_err-prefix_encoding.ensures
-    (λ h. table_refused encoding_object _ (join-later encoding_head_rows _ _ (fields-later _ _ _ (join-later encoding_style_rows _ _ (fields-later _ _ _ (fields-first _ _ _ h))))))
-    (omega (arith, c.in_ok-headers.ensures.grows, c.in_ok-encoding.ensures.grows))
-    (omega (arith, encoding_values (view c.args.tree.now), c.in_ok-headers.ensures.at_most, c.in_ok-encoding.ensures.at_most))
-
-pub read_encoding-returns-in_err-item_encoding : goal.read_encoding-returns-in_err-item_encoding
-read_encoding-returns-in_err-item_encoding t c =
-    passes_reads _ _ _ _ _ _ _ _ _ _ _ c.from_residual-in_err-item_encoding.ensures.1 c.in_err-item_encoding.ensures
-    (λ h. table_refused encoding_object _ (join-later encoding_head_rows _ _ (fields-later _ _ _ (join-later encoding_style_rows _ _ (fields-later _ _ _ (fields-later _ _ _ (fields-first _ _ _ h)))))))
-    (omega (arith, c.in_ok-headers.ensures.grows, c.in_ok-encoding.ensures.grows, c.in_ok-prefix_encoding.ensures.grows))
-    (omega (arith, encoding_values (view c.args.tree.now), c.in_ok-headers.ensures.at_most, c.in_ok-encoding.ensures.at_most, c.in_ok-prefix_encoding.ensures.at_most))
+    (omega (arith, c.in_ok-headers.ensures.at_most, encoding_parts_fewer (view c.args.tree.now)))
 
 pub read_encoding-returns : goal.read_encoding-returns
-read_encoding-returns t c = c.assemble_encoding.ensures _ _ c.in_ok-headers.ensures (encodings_read _ _ _ _ _ _ _ _ c.in_ok-encoding.ensures c.in_ok-prefix_encoding.ensures c.in_ok-item_encoding.ensures)
+read_encoding-returns t c =
+    let headers_doc = map_of_docs (ref_or_doc (named header_object) header_doc) in
+    let both = c.in_ok-headers-2.ensures.ok in
+    let headers = reads_as headers_doc headers_doc c.in_ok-headers.headers c.in_ok-headers-2.headers _ _ _ _ (ap headers_doc (sym both.0)) c.in_ok-headers.ensures in
+    let encodings = reads_value _ _ c.read_encodings.result c.in_ok-headers-2.encodings _ _ _ c.read_encodings.ensures both.1 in
+    c.assemble_encoding.ensures _ _ headers (part_as _ encodings_rows _ c.in_ok-headers-2.encodings _ _ encodings)
 
 pub read_header-returns-in_err-content : goal.read_header-returns-in_err-content
 read_header-returns-in_err-content t c =

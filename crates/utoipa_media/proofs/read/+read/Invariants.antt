@@ -10,19 +10,22 @@ use Rattle.utoipa_media.specs.Docs.{content_doc, encoding_doc, header_doc}
 use Rattle.utoipa_media.proofs.read.+read.Given as goal
 
 abbrev pub decreases-read_content : goal.decreases-read_content
-decreases-read_content l = 8 * values (view l.tree.now) + 2
+decreases-read_content l = 8 * values (view l.tree.now) + 3
 
 abbrev pub decreases-read_encoding : goal.decreases-read_encoding
-decreases-read_encoding l = 8 * values (view l.tree.now) + 2
+decreases-read_encoding l = 8 * values (view l.tree.now) + 3
 
 abbrev pub decreases-read_header : goal.decreases-read_header
-decreases-read_header l = 8 * values (view l.tree.now) + 2
+decreases-read_header l = 8 * values (view l.tree.now) + 3
 
 abbrev pub decreases-read_ref_or_content : goal.decreases-read_ref_or_content
-decreases-read_ref_or_content l = 8 * values (view l.tree.now) + 3
+decreases-read_ref_or_content l = 8 * values (view l.tree.now) + 4
 
 abbrev pub decreases-read_ref_or_header : goal.decreases-read_ref_or_header
-decreases-read_ref_or_header l = 8 * values (view l.tree.now) + 3
+decreases-read_ref_or_header l = 8 * values (view l.tree.now) + 4
+
+abbrev pub decreases-read_encodings : goal.decreases-read_encodings
+decreases-read_encodings l = 8 * values (view l.tree.now) + 2
 
 abbrev pub decreases-read_encodings_by_name : goal.decreases-read_encodings_by_name
 decreases-read_encodings_by_name l = 8 * values (view l.tree.now) + 1

@@ -3,7 +3,7 @@ use Rattle.std.proofs.Common.{◌≡◌, ◌∷◌, ◌++◌, map, String, Globa
 use Rattle.std.proofs.lemmas.Result.{IfOk-weaker}
 use Rattle.serde_json.specs.Data.{Members, no_members, put}
 use Rattle.serde_json.specs.View.{view, members_view}
-use Rattle.utoipa_base.specs.Docs.{Doc, doc, no_docs, list_doc, docs_of}
+use Rattle.utoipa_base.specs.Docs.{Doc, doc, docs_append, no_docs, list_doc, docs_of}
 use Rattle.utoipa_base.specs.Extensions.{extensions_view, members_or_none}
 use Rattle.utoipa_base.specs.Fields.{put_field}
 use Rattle.utoipa_base.specs.Kinds.{media_type_object, encoding_object, header_object, named, list_of, map_of, ref_or, optional, defaulted}
@@ -15,7 +15,7 @@ use Rattle.utoipa_base.specs.declared.refs.RefOr.{RefOr}
 use Rattle.utoipa_base.proofs.ByRows.{table_written, rows-cons, rows-nil, put_field-none, put_field-empty}
 use Rattle.utoipa_base.proofs.Empties.{vacant_slice, vacant_entries}
 use Rattle.utoipa_base.proofs.Places.{write-ref, write-own}
-use Rattle.utoipa_base.proofs.TableParts.{docs_append, optional_written, default_written, on_ok}
+use Rattle.utoipa_base.proofs.TableParts.{optional_written, default_written, on_ok}
 use Rattle.utoipa_base.proofs.Weights.{weight, lighter_item, lighter_member, lighter_some, lighter_own}
 use Rattle.utoipa_base.proofs.WritingLists.{written_item, written_list}
 use Rattle.utoipa_base.proofs.WritingMaps.{written_begun, written_step, written_map}

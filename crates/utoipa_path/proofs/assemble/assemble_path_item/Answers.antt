@@ -1,12 +1,10 @@
-use Rattle.std.proofs.Common.{◌≡◌, ◌∙◌, ◌++◌, is_some, true, refl, sym, ap, arith}
+use Rattle.std.proofs.Common.{◌≡◌, ◌∙◌, is_some, true, refl, sym, ap, arith}
 use Rattle.serde_json.specs.Find.{as_object}
 use Rattle.serde_json.specs.View.{view}
 use Rattle.utoipa_base.specs.Kinds.{path_item_object}
-use Rattle.utoipa_base.specs.declared.fault.ReadFault.TheVariants.{Memory}
 use Rattle.utoipa_base.proofs.ByRows.{read-no_object}
-use Rattle.utoipa_base.proofs.PartsRead.{part_as, part_before, part_refused, parts_fewer, table_read}
-use Rattle.utoipa_base.proofs.Readers.{passes_refusal}
-use Rattle.utoipa_base.proofs.RowLists.{reads_as}
+use Rattle.utoipa_base.proofs.PartsRead.{parts_fewer}
+use Rattle.utoipa_base.proofs.RowLists.{passes_reads, reads_as}
 use Rattle.utoipa_path.specs.Docs.{operations_of, operation_doc, path_item_doc, path_item_layer}
 use Rattle.utoipa_path.specs.Parts.{base_rows, operations_rows}
 use Rattle.utoipa_path.specs.declared.types.PathItem.{out-PathItem, out-roll-PathItem}
@@ -24,20 +22,12 @@ returns-then-not-is_object c = λ start before.
 
 pub returns-in_err-base : goal.returns-in_err-base
 returns-in_err-base c = λ start before.
-    let operations = part_as (λ i. operations_of operation_doc (out-PathItem i)) operations_rows _ c.args.item _ _ before in
-    part_refused _ path_item_doc path_item_object base_rows operations_rows _ _ _ _ start _ _ refl operations c.from_residual.ensures.1 c.in_err-base.ensures
-
-pub returns-in_err-extensions : goal.returns-in_err-extensions
-returns-in_err-extensions c = λ start before.
-    let less = parts_fewer path_item_object base_rows operations_rows (view c.args.tree.now) refl in
-    passes_refusal path_item_doc _ Memory _ start _ _ c.from_residual-in_err-extensions.ensures.1 tt
-    (omega (arith, before.grows, c.in_ok-base.ensures.grows))
-    (omega (arith, before.at_most, c.in_ok-base.ensures.at_most, less))
+    let object : is_some (as_object (view c.args.tree.now)) ≡ true = sym c.is_object.ensures ∙ c.if-not-is_object.false in
+    let all = c.in_err-base.ensures path_item_object start operations_rows (λ i. operations_of operation_doc (out-PathItem i)) refl refl object before in
+    passes_reads _ path_item_doc _ _ _ _ start _ _ _ _ c.from_residual.ensures.1 all (λ h. h) (omega arith) (omega arith)
 
 pub returns : goal.returns
 returns c = λ start before.
     let object : is_some (as_object (view c.args.tree.now)) ≡ true = sym c.is_object.ensures ∙ c.if-not-is_object.false in
-    let operations = part_as (λ i. operations_of operation_doc (out-PathItem i)) operations_rows _ c.args.item _ _ before in
-    let all = table_read path_item_object (base_rows ++ operations_rows) _ _ _ start _ refl refl object c.in_ok-extensions.ensures
-    (part_before base_rows operations_rows _ _ _ start _ _ operations (part_as _ base_rows _ c.in_ok-base.base _ _ c.in_ok-base.ensures)) in
+    let all = c.in_ok-base.ensures path_item_object start operations_rows (λ i. operations_of operation_doc (out-PathItem i)) refl refl object before in
     reads_as _ path_item_doc _ _ _ _ _ _ (sym (ap (path_item_layer operation_doc) (out-roll-PathItem _))) all

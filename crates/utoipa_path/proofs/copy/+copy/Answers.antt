@@ -11,12 +11,13 @@ use Rattle.utoipa_base.specs.declared.refs.RefOr.TheVariants as places
 use Rattle.utoipa_base.proofs.TableParts.{same_field}
 use Rattle.utoipa_base.proofs.Weights.{weight, lighter_member, lighter_some, lighter_own}
 use Rattle.utoipa_base.proofs.WritingMaps.{copied_begun, copied_step, copied_map}
-use Rattle.utoipa_path.specs.Docs.{CallbackOf, operation_doc, path_item_doc, callback_doc, operations_of}
+use Rattle.utoipa_path.specs.Docs.{CallbackOf, operation_doc, path_item_doc, callback_doc, callbacks_doc, operations_of}
 use Rattle.utoipa_leaf.specs.declared.path.HttpMethod.TheVariants.{Post, Put, Delete, Head, Patch, Trace}
 use Rattle.utoipa_path.specs.Builders.{PathItemFields, Operations}
 use Rattle.utoipa_path.specs.Methods.{with_method}
 use Rattle.utoipa_path.specs.declared.types.Operation.{Operation}
 use Rattle.utoipa_path.specs.declared.types.PathItem.{PathItem, out-PathItem, roll-PathItem, out-roll-PathItem}
+use Rattle.utoipa_path.proofs.Built.{built_where_done}
 use Rattle.utoipa_path.proofs.Weights.{held_by_operation, lighter_operations, among_operations, among_methods}
 use Rattle.utoipa_path.proofs.copy.+copy.Goals as goal
 
@@ -34,6 +35,9 @@ copy_path_item-returns t c = on_ok_weaker c.copy_beside_operations.result (λ h.
 
 pub clone_boxed_path_item-copy_path_item-requires : goal.clone_boxed_path_item-copy_path_item-requires
 clone_boxed_path_item-copy_path_item-requires t c = (omega arith, tt)
+
+pub clone_boxed_path_item-returns : goal.clone_boxed_path_item-returns
+clone_boxed_path_item-returns t c = built_where_done c.copy_path_item.result _ _ (λ copy. path_item_doc copy.value ≡ path_item_doc c.args.item.now) c.and.ensures c.copy_path_item.ensures
 
 pub put_ref_or_path_item-clone_boxed_path_item-requires : goal.put_ref_or_path_item-clone_boxed_path_item-requires
 put_ref_or_path_item-clone_boxed_path_item-requires t c =
@@ -54,22 +58,28 @@ put_ref_or_path_item-returns-in_ok-clone_boxed_path_item-in-T t c =
     (λ put. (places.T copy.value, ap own_doc c.in_ok-clone_boxed_path_item-in-T.ensures ∙ sym (ap (ref_or_doc (named path_item_object) path_item_doc) c.in-T.is), put))
     c.put_boxed.ensures
 
-pub clone_callback-put_ref_or_path_item-requires : goal.clone_callback-put_ref_or_path_item-requires
-clone_callback-put_ref_or_path_item-requires t c =
+pub copy_callback-put_ref_or_path_item-requires : goal.copy_callback-put_ref_or_path_item-requires
+copy_callback-put_ref_or_path_item-requires t c =
     let e : String Global × RefOr PathItem = (c.in-Some.key.now, c.in-Some.member.now) in
     let all : c.args.callback.now.entries ≡ c.loop-key.invariant.done ++ e ∷ c.next.new.self = c.loop-key.invariant.split ∙ ap (λ es. c.loop-key.invariant.done ++ es) c.in-Some.ensures.steps in
     (omega (arith, lighter_member (ref_or_doc (named path_item_object) path_item_doc) c.args.callback.now.entries c.loop-key.invariant.done e c.next.new.self all), tt)
 
-pub clone_callback-loop-key-init : goal.clone_callback-loop-key-init
-clone_callback-loop-key-init t c = copied_begun (ref_or_doc (named path_item_object) path_item_doc) _ _ _ (c.into_iter-key-iterator.ensures.into_iter_gives ∙ c.iter-key-items.ensures.rest) (search rules)
+pub copy_callback-loop-key-init : goal.copy_callback-loop-key-init
+copy_callback-loop-key-init t c = copied_begun (ref_or_doc (named path_item_object) path_item_doc) _ _ _ (c.into_iter-key-iterator.ensures.into_iter_gives ∙ c.iter-key-items.ensures.rest) c.requires
 
-pub clone_callback-loop-key-preserved : goal.clone_callback-loop-key-preserved
-clone_callback-loop-key-preserved t c =
+pub copy_callback-loop-key-preserved : goal.copy_callback-loop-key-preserved
+copy_callback-loop-key-preserved t c =
     let put = c.in_ok-put_ref_or_path_item.ensures in
     copied_step (ref_or_doc (named path_item_object) path_item_doc) _ _ _ _ _ _ _ _ c.loop-key.invariant c.in-Some.ensures.steps c.iter-key-items.ensures.ordered c.in_ok-name.ensures.cases put.1 put.2
 
+pub copy_callback-returns : goal.copy_callback-returns
+copy_callback-returns t c = copied_map (ref_or_doc (named path_item_object) path_item_doc) c.args.callback.now c.loop-key.copy _ c.loop-key.invariant c.in-None.ensures.steps.0
+
+pub clone_callback-copy_callback-requires : goal.clone_callback-copy_callback-requires
+clone_callback-copy_callback-requires t c = (omega arith, search rules)
+
 pub clone_callback-returns : goal.clone_callback-returns
-clone_callback-returns t c = copied_map (ref_or_doc (named path_item_object) path_item_doc) c.args.callback.now c.loop-key.map _ c.loop-key.invariant c.in-None.ensures.steps.0
+clone_callback-returns t c = built_where_done c.copy_callback.result _ _ (λ copy. callback_doc copy ≡ callback_doc c.args.callback.now) c.and.ensures c.copy_callback.ensures
 
 pub clone_ref_or_callback-clone_callback-requires : goal.clone_ref_or_callback-clone_callback-requires
 clone_ref_or_callback-clone_callback-requires t c =
@@ -82,35 +92,47 @@ clone_ref_or_callback-returns-in_ok-try_clone-in-Ref t c = ap (ref_doc callback)
 pub clone_ref_or_callback-returns-in_ok-clone_callback-in-T : goal.clone_ref_or_callback-returns-in_ok-clone_callback-in-T
 clone_ref_or_callback-returns-in_ok-clone_callback-in-T t c = ap own_doc c.in_ok-clone_callback-in-T.ensures ∙ sym (ap (ref_or_doc callback callback_doc) c.in-T.is)
 
-pub clone_callback_map-clone_ref_or_callback-requires : goal.clone_callback_map-clone_ref_or_callback-requires
-clone_callback_map-clone_ref_or_callback-requires t c =
+pub clone_callback_map-copy_callback_map-requires : goal.clone_callback_map-copy_callback_map-requires
+clone_callback_map-copy_callback_map-requires t c = (omega arith, search rules)
+
+pub clone_callback_map-returns : goal.clone_callback_map-returns
+clone_callback_map-returns t c = built_where_done c.copy_callback_map.result _ _ (λ copy. callbacks_doc copy ≡ callbacks_doc c.args.callbacks.now) c.and.ensures c.copy_callback_map.ensures
+
+pub copy_callback_map-clone_ref_or_callback-requires : goal.copy_callback_map-clone_ref_or_callback-requires
+copy_callback_map-clone_ref_or_callback-requires t c =
     let e : String Global × RefOr (CallbackOf PathItem) = (c.in-Some.key.now, c.in-Some.member.now) in
     let all : c.args.callbacks.now.entries ≡ c.loop-key.invariant.done ++ e ∷ c.next.new.self = c.loop-key.invariant.split ∙ ap (λ es. c.loop-key.invariant.done ++ es) c.in-Some.ensures.steps in
     (omega (arith, lighter_member (ref_or_doc callback callback_doc) c.args.callbacks.now.entries c.loop-key.invariant.done e c.next.new.self all), tt)
 
-pub clone_callback_map-loop-key-init : goal.clone_callback_map-loop-key-init
-clone_callback_map-loop-key-init t c = copied_begun (ref_or_doc callback callback_doc) _ _ _ (c.into_iter-key-iterator.ensures.into_iter_gives ∙ c.iter-key-items.ensures.rest) (search rules)
+pub copy_callback_map-loop-key-init : goal.copy_callback_map-loop-key-init
+copy_callback_map-loop-key-init t c = copied_begun (ref_or_doc callback callback_doc) _ _ _ (c.into_iter-key-iterator.ensures.into_iter_gives ∙ c.iter-key-items.ensures.rest) c.requires
 
-pub clone_callback_map-loop-key-preserved : goal.clone_callback_map-loop-key-preserved
-clone_callback_map-loop-key-preserved t c = copied_step (ref_or_doc callback callback_doc) _ _ _ _ _ _ _ _ c.loop-key.invariant c.in-Some.ensures.steps c.iter-key-items.ensures.ordered c.in_ok-name.ensures.cases c.in_ok-value.ensures c.in_ok-put.ensures
+pub copy_callback_map-loop-key-preserved : goal.copy_callback_map-loop-key-preserved
+copy_callback_map-loop-key-preserved t c = copied_step (ref_or_doc callback callback_doc) _ _ _ _ _ _ _ _ c.loop-key.invariant c.in-Some.ensures.steps c.iter-key-items.ensures.ordered c.in_ok-name.ensures.cases c.in_ok-value.ensures c.in_ok-put.ensures
 
-pub clone_callback_map-returns : goal.clone_callback_map-returns
-clone_callback_map-returns t c = copied_map (ref_or_doc callback callback_doc) c.args.callbacks.now c.loop-key.map _ c.loop-key.invariant c.in-None.ensures.steps.0
+pub copy_callback_map-returns : goal.copy_callback_map-returns
+copy_callback_map-returns t c = copied_map (ref_or_doc callback callback_doc) c.args.callbacks.now c.loop-key.copy _ c.loop-key.invariant c.in-None.ensures.steps.0
 
-pub clone_operation_map-clone_operation-requires : goal.clone_operation_map-clone_operation-requires
-clone_operation_map-clone_operation-requires t c =
+pub clone_operation_map-copy_operation_map-requires : goal.clone_operation_map-copy_operation_map-requires
+clone_operation_map-copy_operation_map-requires t c = (omega arith, search rules)
+
+pub clone_operation_map-returns : goal.clone_operation_map-returns
+clone_operation_map-returns t c = built_where_done c.copy_operation_map.result _ _ (λ copy. map_of_docs operation_doc copy ≡ map_of_docs operation_doc c.args.operations.now) c.and.ensures c.copy_operation_map.ensures
+
+pub copy_operation_map-clone_operation-requires : goal.copy_operation_map-clone_operation-requires
+copy_operation_map-clone_operation-requires t c =
     let e : String Global × Operation = (c.in-Some.key.now, c.in-Some.member.now) in
     let all : c.args.operations.now.entries ≡ c.loop-key.invariant.done ++ e ∷ c.next.new.self = c.loop-key.invariant.split ∙ ap (λ es. c.loop-key.invariant.done ++ es) c.in-Some.ensures.steps in
     (omega (arith, lighter_member operation_doc c.args.operations.now.entries c.loop-key.invariant.done e c.next.new.self all), tt)
 
-pub clone_operation_map-loop-key-init : goal.clone_operation_map-loop-key-init
-clone_operation_map-loop-key-init t c = copied_begun operation_doc _ _ _ (c.into_iter-key-iterator.ensures.into_iter_gives ∙ c.iter-key-items.ensures.rest) (search rules)
+pub copy_operation_map-loop-key-init : goal.copy_operation_map-loop-key-init
+copy_operation_map-loop-key-init t c = copied_begun operation_doc _ _ _ (c.into_iter-key-iterator.ensures.into_iter_gives ∙ c.iter-key-items.ensures.rest) c.requires
 
-pub clone_operation_map-loop-key-preserved : goal.clone_operation_map-loop-key-preserved
-clone_operation_map-loop-key-preserved t c = copied_step operation_doc _ _ _ _ _ _ _ _ c.loop-key.invariant c.in-Some.ensures.steps c.iter-key-items.ensures.ordered c.in_ok-name.ensures.cases c.in_ok-value.ensures c.in_ok-put.ensures
+pub copy_operation_map-loop-key-preserved : goal.copy_operation_map-loop-key-preserved
+copy_operation_map-loop-key-preserved t c = copied_step operation_doc _ _ _ _ _ _ _ _ c.loop-key.invariant c.in-Some.ensures.steps c.iter-key-items.ensures.ordered c.in_ok-name.ensures.cases c.in_ok-value.ensures c.in_ok-put.ensures
 
-pub clone_operation_map-returns : goal.clone_operation_map-returns
-clone_operation_map-returns t c = copied_map operation_doc c.args.operations.now c.loop-key.map _ c.loop-key.invariant c.in-None.ensures.steps.0
+pub copy_operation_map-returns : goal.copy_operation_map-returns
+copy_operation_map-returns t c = copied_map operation_doc c.args.operations.now c.loop-key.copy _ c.loop-key.invariant c.in-None.ensures.steps.0
 
 pub clone_method-clone_operation-requires : goal.clone_method-clone_operation-requires
 clone_method-clone_operation-requires t c = (omega (arith, ap (λ o. weight (option_of operation_doc (option_map (λ b. b.now) o))) c.in-Some.is, lighter_some (operation_doc c.in-Some.operation.now)), tt)

@@ -1,5 +1,5 @@
 -- The answers of the functions that read operations and path items.
-use Rattle.std.proofs.Common.{◌≡◌, true, false, [], take, drop, Ok, Some, None, option_map, string_cmp, sym, ap, ◌∙◌, subst, arith, rules, codes, refl}
+use Rattle.std.proofs.Common.{◌≡◌, Option, true, false, [], take, drop, Ok, Some, None, option_map, string_cmp, sym, ap, ◌∙◌, subst, arith, rules, codes, refl}
 use Rattle.std.specs.List.Sorted.{IsStrictlySortedBy}
 use Rattle.std.specs.Map.{keys_of}
 use Rattle.serde_json.specs.Find.{get, as_object}
@@ -23,9 +23,14 @@ use Rattle.utoipa_base.proofs.ReadingMaps.{map_begun, map_step, map_refused, map
 use Rattle.utoipa_base.proofs.RowLists.{passes_reads, reads_as}
 use Rattle.utoipa_base.proofs.TableParts.{join-later, no_fields_of_part}
 use Rattle.utoipa_base.proofs.Tried.{fits_as, fits_not}
-use Rattle.utoipa_path.specs.Docs.{operations_of, operation_doc, path_item_doc, callback_doc}
+use Rattle.utoipa_leaf.specs.declared.path.HttpMethod.TheVariants.{Put, Post, Delete, Options, Head, Patch, Trace}
+use Rattle.utoipa_path.specs.Builders.{PathItemFields, Operations}
+use Rattle.utoipa_path.specs.Docs.{operations_of, operation_doc, path_item_doc, callback_doc, callbacks_doc}
+use Rattle.utoipa_path.specs.Methods.{with_method}
 use Rattle.utoipa_path.specs.Parts.{description_rows, message_rows, base_rows, operations_rows}
+use Rattle.utoipa_path.specs.declared.types.Operation.{Operation}
 use Rattle.utoipa_path.specs.declared.types.PathItem.{out-PathItem, out-roll-PathItem}
+use Rattle.utoipa_path.proofs.Built.{err_of, reads_where_done}
 use Rattle.utoipa_path.proofs.PathParts.{callbacks_fewer, operations_values, method_row, additional_row, refused_among, operations_read}
 use Rattle.utoipa_path.proofs.read.+read.Goals as goal
 
@@ -89,143 +94,143 @@ read_method-returns-in-None t c =
     let gone : get c.args.name.now (view c.args.tree.now) ≡ None = search rules in
     optional_absent operation_doc c.args.name.now (named operation_object) (view c.args.tree.now) _ gone
 
-pub read_callback-returns-in_default : goal.read_callback-returns-in_default
-read_callback-returns-in_default t c =
+pub fill_callback-returns-in_default : goal.fill_callback-returns-in_default
+fill_callback-returns-in_default t c =
     let none : as_object (view c.args.tree.now) ≡ None = search rules in
     refused_unread _ _ _ _ _ (map_none (ref_or (named path_item_object)) (view c.args.tree.now) none)
 
-pub read_callback-read_ref_or_path_item-requires : goal.read_callback-read_ref_or_path_item-requires
-read_callback-read_ref_or_path_item-requires t c =
+pub fill_callback-read_ref_or_path_item-requires : goal.fill_callback-read_ref_or_path_item-requires
+fill_callback-read_ref_or_path_item-requires t c =
     let all : c.into_iter-key-iterator.result ≡ c.in-Some.members.now.entries = c.into_iter-key-iterator.ensures.into_iter_gives ∙ c.iter-key-items.ensures.rest in
     let is : Some (members_view c.into_iter-key-iterator.result) ≡ as_object (view c.args.tree.now) = ap (λ vs. Some (members_view vs)) all ∙ c.in-Some.ensures in
     (omega (arith, entry_fewer (ref_or (named path_item_object)) (ref_or_doc (named path_item_object) path_item_doc) _ _ _ _ _ (c.in-Some-2.key.now, c.in-Some-2.member.now) _ _ c.loop-key.invariant c.in-Some-2.ensures.steps is), tt)
 
-pub read_callback-loop-key-init : goal.read_callback-loop-key-init
-read_callback-loop-key-init t c = map_begun (ref_or (named path_item_object)) (ref_or_doc (named path_item_object) path_item_doc) _ _ _ (search rules)
+pub fill_callback-loop-key-init : goal.fill_callback-loop-key-init
+fill_callback-loop-key-init t c = map_begun (ref_or (named path_item_object)) (ref_or_doc (named path_item_object) path_item_doc) _ _ _ c.requires
 
-pub read_callback-loop-key-preserved : goal.read_callback-loop-key-preserved
-read_callback-loop-key-preserved t c =
+pub fill_callback-loop-key-preserved : goal.fill_callback-loop-key-preserved
+fill_callback-loop-key-preserved t c =
     let all : c.into_iter-key-iterator.result ≡ c.in-Some.members.now.entries = c.into_iter-key-iterator.ensures.into_iter_gives ∙ c.iter-key-items.ensures.rest in
     let ordered = subst (λ r. IsStrictlySortedBy string_cmp (keys_of r)) (sym all) c.iter-key-items.ensures.ordered in
-    map_step (ref_or (named path_item_object)) (ref_or_doc (named path_item_object) path_item_doc) _ _ _ _ _ _ _ _ _ _ _ c.loop-key.invariant c.in-Some-2.ensures.steps ordered c.in_ok-name.ensures.cases c.in_ok-insert.ensures.entries c.in_ok-value.ensures
+    map_step (ref_or (named path_item_object)) (ref_or_doc (named path_item_object) path_item_doc) _ _ _ _ _ _ _ _ _ _ _ c.loop-key.invariant c.in-Some-2.ensures.steps ordered c.in_ok-name.ensures.cases c.in_ok-put.ensures.ok c.in_ok-value.ensures
 
-pub read_callback-returns-in_err-name : goal.read_callback-returns-in_err-name
-read_callback-returns-in_err-name t c =
+pub fill_callback-returns-in_err-name : goal.fill_callback-returns-in_err-name
+fill_callback-returns-in_err-name t c =
     let all : c.into_iter-key-iterator.result ≡ c.in-Some.members.now.entries = c.into_iter-key-iterator.ensures.into_iter_gives ∙ c.iter-key-items.ensures.rest in
     let is : Some (members_view c.into_iter-key-iterator.result) ≡ as_object (view c.args.tree.now) = ap (λ vs. Some (members_view vs)) all ∙ c.in-Some.ensures in
     let within = map_within (ref_or (named path_item_object)) (ref_or_doc (named path_item_object) path_item_doc) _ _ _ _ _ _ c.loop-key.invariant is in
-    passes_refusal (map_of_docs (ref_or_doc (named path_item_object) path_item_doc)) _ Memory _ _ _ _ c.from_residual.ensures.1 tt within.0 within.1
+    passes_refusal _ _ Memory _ _ _ _ c.from_residual.ensures.1 tt within.0 within.1
 
-pub read_callback-returns-in_err-value : goal.read_callback-returns-in_err-value
-read_callback-returns-in_err-value t c =
+pub fill_callback-returns-in_err-value : goal.fill_callback-returns-in_err-value
+fill_callback-returns-in_err-value t c =
     let all : c.into_iter-key-iterator.result ≡ c.in-Some.members.now.entries = c.into_iter-key-iterator.ensures.into_iter_gives ∙ c.iter-key-items.ensures.rest in
     let is : Some (members_view c.into_iter-key-iterator.result) ≡ as_object (view c.args.tree.now) = ap (λ vs. Some (members_view vs)) all ∙ c.in-Some.ensures in
     map_refused (ref_or (named path_item_object)) (ref_or_doc (named path_item_object) path_item_doc) _ _ _ _ _ _ _ _ _ _ _ _ c.loop-key.invariant c.in-Some-2.ensures.steps is c.from_residual-in_err-value.ensures.1 c.in_err-value.ensures
 
-pub read_callback-returns-in_err-insert : goal.read_callback-returns-in_err-insert
-read_callback-returns-in_err-insert t c =
+pub fill_callback-returns-in_err-put : goal.fill_callback-returns-in_err-put
+fill_callback-returns-in_err-put t c =
     let all : c.into_iter-key-iterator.result ≡ c.in-Some.members.now.entries = c.into_iter-key-iterator.ensures.into_iter_gives ∙ c.iter-key-items.ensures.rest in
     let is : Some (members_view c.into_iter-key-iterator.result) ≡ as_object (view c.args.tree.now) = ap (λ vs. Some (members_view vs)) all ∙ c.in-Some.ensures in
     let within = map_within_next (ref_or (named path_item_object)) (ref_or_doc (named path_item_object) path_item_doc) _ _ _ _ _ _ _ _ _ _ c.loop-key.invariant c.in-Some-2.ensures.steps is c.in_ok-value.ensures in
-    passes_refusal (map_of_docs (ref_or_doc (named path_item_object) path_item_doc)) _ Memory _ _ _ _ c.from_residual-in_err-insert.ensures.1 tt within.0 within.1
+    passes_refusal _ _ Memory _ _ _ _ c.from_residual-in_err-put.ensures.1 tt within.0 within.1
 
-pub read_callback-returns : goal.read_callback-returns
-read_callback-returns t c =
+pub fill_callback-returns : goal.fill_callback-returns
+fill_callback-returns t c =
     let all : c.into_iter-key-iterator.result ≡ c.in-Some.members.now.entries = c.into_iter-key-iterator.ensures.into_iter_gives ∙ c.iter-key-items.ensures.rest in
     let is : Some (members_view c.into_iter-key-iterator.result) ≡ as_object (view c.args.tree.now) = ap (λ vs. Some (members_view vs)) all ∙ c.in-Some.ensures in
-    map_read (ref_or (named path_item_object)) (ref_or_doc (named path_item_object) path_item_doc) _ _ _ _ _ _ c.loop-key.invariant c.in-None.ensures.steps.0 is
+    reads_as (map_of_docs (ref_or_doc (named path_item_object) path_item_doc)) _ c.loop-key.map _ _ _ _ _ refl (map_read (ref_or (named path_item_object)) (ref_or_doc (named path_item_object) path_item_doc) _ _ c.loop-key.map _ _ _ c.loop-key.invariant c.in-None.ensures.steps.0 is)
 
-pub read_callback_map-returns-in_default : goal.read_callback_map-returns-in_default
-read_callback_map-returns-in_default t c =
+pub fill_callback_map-returns-in_default : goal.fill_callback_map-returns-in_default
+fill_callback_map-returns-in_default t c =
     let none : as_object (view c.args.tree.now) ≡ None = search rules in
     refused_unread _ _ _ _ _ (map_none (ref_or callback) (view c.args.tree.now) none)
 
-pub read_callback_map-read_ref_or_callback-requires : goal.read_callback_map-read_ref_or_callback-requires
-read_callback_map-read_ref_or_callback-requires t c =
+pub fill_callback_map-read_ref_or_callback-requires : goal.fill_callback_map-read_ref_or_callback-requires
+fill_callback_map-read_ref_or_callback-requires t c =
     let all : c.into_iter-key-iterator.result ≡ c.in-Some.members.now.entries = c.into_iter-key-iterator.ensures.into_iter_gives ∙ c.iter-key-items.ensures.rest in
     let is : Some (members_view c.into_iter-key-iterator.result) ≡ as_object (view c.args.tree.now) = ap (λ vs. Some (members_view vs)) all ∙ c.in-Some.ensures in
     (omega (arith, entry_fewer (ref_or callback) (ref_or_doc callback callback_doc) _ _ _ _ _ (c.in-Some-2.key.now, c.in-Some-2.member.now) _ _ c.loop-key.invariant c.in-Some-2.ensures.steps is), tt)
 
-pub read_callback_map-loop-key-init : goal.read_callback_map-loop-key-init
-read_callback_map-loop-key-init t c = map_begun (ref_or callback) (ref_or_doc callback callback_doc) _ _ _ (search rules)
+pub fill_callback_map-loop-key-init : goal.fill_callback_map-loop-key-init
+fill_callback_map-loop-key-init t c = map_begun (ref_or callback) (ref_or_doc callback callback_doc) _ _ _ c.requires
 
-pub read_callback_map-loop-key-preserved : goal.read_callback_map-loop-key-preserved
-read_callback_map-loop-key-preserved t c =
+pub fill_callback_map-loop-key-preserved : goal.fill_callback_map-loop-key-preserved
+fill_callback_map-loop-key-preserved t c =
     let all : c.into_iter-key-iterator.result ≡ c.in-Some.members.now.entries = c.into_iter-key-iterator.ensures.into_iter_gives ∙ c.iter-key-items.ensures.rest in
     let ordered = subst (λ r. IsStrictlySortedBy string_cmp (keys_of r)) (sym all) c.iter-key-items.ensures.ordered in
-    map_step (ref_or callback) (ref_or_doc callback callback_doc) _ _ _ _ _ _ _ _ _ _ _ c.loop-key.invariant c.in-Some-2.ensures.steps ordered c.in_ok-name.ensures.cases c.in_ok-insert.ensures.entries c.in_ok-value.ensures
+    map_step (ref_or callback) (ref_or_doc callback callback_doc) _ _ _ _ _ _ _ _ _ _ _ c.loop-key.invariant c.in-Some-2.ensures.steps ordered c.in_ok-name.ensures.cases c.in_ok-put.ensures.ok c.in_ok-value.ensures
 
-pub read_callback_map-returns-in_err-name : goal.read_callback_map-returns-in_err-name
-read_callback_map-returns-in_err-name t c =
+pub fill_callback_map-returns-in_err-name : goal.fill_callback_map-returns-in_err-name
+fill_callback_map-returns-in_err-name t c =
     let all : c.into_iter-key-iterator.result ≡ c.in-Some.members.now.entries = c.into_iter-key-iterator.ensures.into_iter_gives ∙ c.iter-key-items.ensures.rest in
     let is : Some (members_view c.into_iter-key-iterator.result) ≡ as_object (view c.args.tree.now) = ap (λ vs. Some (members_view vs)) all ∙ c.in-Some.ensures in
     let within = map_within (ref_or callback) (ref_or_doc callback callback_doc) _ _ _ _ _ _ c.loop-key.invariant is in
-    passes_refusal (map_of_docs (ref_or_doc callback callback_doc)) _ Memory _ _ _ _ c.from_residual.ensures.1 tt within.0 within.1
+    passes_refusal _ _ Memory _ _ _ _ c.from_residual.ensures.1 tt within.0 within.1
 
-pub read_callback_map-returns-in_err-value : goal.read_callback_map-returns-in_err-value
-read_callback_map-returns-in_err-value t c =
+pub fill_callback_map-returns-in_err-value : goal.fill_callback_map-returns-in_err-value
+fill_callback_map-returns-in_err-value t c =
     let all : c.into_iter-key-iterator.result ≡ c.in-Some.members.now.entries = c.into_iter-key-iterator.ensures.into_iter_gives ∙ c.iter-key-items.ensures.rest in
     let is : Some (members_view c.into_iter-key-iterator.result) ≡ as_object (view c.args.tree.now) = ap (λ vs. Some (members_view vs)) all ∙ c.in-Some.ensures in
     map_refused (ref_or callback) (ref_or_doc callback callback_doc) _ _ _ _ _ _ _ _ _ _ _ _ c.loop-key.invariant c.in-Some-2.ensures.steps is c.from_residual-in_err-value.ensures.1 c.in_err-value.ensures
 
-pub read_callback_map-returns-in_err-insert : goal.read_callback_map-returns-in_err-insert
-read_callback_map-returns-in_err-insert t c =
+pub fill_callback_map-returns-in_err-put : goal.fill_callback_map-returns-in_err-put
+fill_callback_map-returns-in_err-put t c =
     let all : c.into_iter-key-iterator.result ≡ c.in-Some.members.now.entries = c.into_iter-key-iterator.ensures.into_iter_gives ∙ c.iter-key-items.ensures.rest in
     let is : Some (members_view c.into_iter-key-iterator.result) ≡ as_object (view c.args.tree.now) = ap (λ vs. Some (members_view vs)) all ∙ c.in-Some.ensures in
     let within = map_within_next (ref_or callback) (ref_or_doc callback callback_doc) _ _ _ _ _ _ _ _ _ _ c.loop-key.invariant c.in-Some-2.ensures.steps is c.in_ok-value.ensures in
-    passes_refusal (map_of_docs (ref_or_doc callback callback_doc)) _ Memory _ _ _ _ c.from_residual-in_err-insert.ensures.1 tt within.0 within.1
+    passes_refusal _ _ Memory _ _ _ _ c.from_residual-in_err-put.ensures.1 tt within.0 within.1
 
-pub read_callback_map-returns : goal.read_callback_map-returns
-read_callback_map-returns t c =
+pub fill_callback_map-returns : goal.fill_callback_map-returns
+fill_callback_map-returns t c =
     let all : c.into_iter-key-iterator.result ≡ c.in-Some.members.now.entries = c.into_iter-key-iterator.ensures.into_iter_gives ∙ c.iter-key-items.ensures.rest in
     let is : Some (members_view c.into_iter-key-iterator.result) ≡ as_object (view c.args.tree.now) = ap (λ vs. Some (members_view vs)) all ∙ c.in-Some.ensures in
-    map_read (ref_or callback) (ref_or_doc callback callback_doc) _ _ _ _ _ _ c.loop-key.invariant c.in-None.ensures.steps.0 is
+    reads_as (map_of_docs (ref_or_doc callback callback_doc)) _ c.loop-key.map _ _ _ _ _ refl (map_read (ref_or callback) (ref_or_doc callback callback_doc) _ _ c.loop-key.map _ _ _ c.loop-key.invariant c.in-None.ensures.steps.0 is)
 
-pub read_operation_map-returns-in_default : goal.read_operation_map-returns-in_default
-read_operation_map-returns-in_default t c =
+pub fill_operation_map-returns-in_default : goal.fill_operation_map-returns-in_default
+fill_operation_map-returns-in_default t c =
     let none : as_object (view c.args.tree.now) ≡ None = search rules in
     refused_unread _ _ _ _ _ (map_none (named operation_object) (view c.args.tree.now) none)
 
-pub read_operation_map-read_operation-requires : goal.read_operation_map-read_operation-requires
-read_operation_map-read_operation-requires t c =
+pub fill_operation_map-read_operation-requires : goal.fill_operation_map-read_operation-requires
+fill_operation_map-read_operation-requires t c =
     let all : c.into_iter-key-iterator.result ≡ c.in-Some.members.now.entries = c.into_iter-key-iterator.ensures.into_iter_gives ∙ c.iter-key-items.ensures.rest in
     let is : Some (members_view c.into_iter-key-iterator.result) ≡ as_object (view c.args.tree.now) = ap (λ vs. Some (members_view vs)) all ∙ c.in-Some.ensures in
     (omega (arith, entry_fewer (named operation_object) operation_doc _ _ _ _ _ (c.in-Some-2.key.now, c.in-Some-2.member.now) _ _ c.loop-key.invariant c.in-Some-2.ensures.steps is), tt)
 
-pub read_operation_map-loop-key-init : goal.read_operation_map-loop-key-init
-read_operation_map-loop-key-init t c = map_begun (named operation_object) operation_doc _ _ _ (search rules)
+pub fill_operation_map-loop-key-init : goal.fill_operation_map-loop-key-init
+fill_operation_map-loop-key-init t c = map_begun (named operation_object) operation_doc _ _ _ c.requires
 
-pub read_operation_map-loop-key-preserved : goal.read_operation_map-loop-key-preserved
-read_operation_map-loop-key-preserved t c =
+pub fill_operation_map-loop-key-preserved : goal.fill_operation_map-loop-key-preserved
+fill_operation_map-loop-key-preserved t c =
     let all : c.into_iter-key-iterator.result ≡ c.in-Some.members.now.entries = c.into_iter-key-iterator.ensures.into_iter_gives ∙ c.iter-key-items.ensures.rest in
     let ordered = subst (λ r. IsStrictlySortedBy string_cmp (keys_of r)) (sym all) c.iter-key-items.ensures.ordered in
-    map_step (named operation_object) operation_doc _ _ _ _ _ _ _ _ _ _ _ c.loop-key.invariant c.in-Some-2.ensures.steps ordered c.in_ok-name.ensures.cases c.in_ok-insert.ensures.entries c.in_ok-value.ensures
+    map_step (named operation_object) operation_doc _ _ _ _ _ _ _ _ _ _ _ c.loop-key.invariant c.in-Some-2.ensures.steps ordered c.in_ok-name.ensures.cases c.in_ok-put.ensures.ok c.in_ok-value.ensures
 
-pub read_operation_map-returns-in_err-name : goal.read_operation_map-returns-in_err-name
-read_operation_map-returns-in_err-name t c =
+pub fill_operation_map-returns-in_err-name : goal.fill_operation_map-returns-in_err-name
+fill_operation_map-returns-in_err-name t c =
     let all : c.into_iter-key-iterator.result ≡ c.in-Some.members.now.entries = c.into_iter-key-iterator.ensures.into_iter_gives ∙ c.iter-key-items.ensures.rest in
     let is : Some (members_view c.into_iter-key-iterator.result) ≡ as_object (view c.args.tree.now) = ap (λ vs. Some (members_view vs)) all ∙ c.in-Some.ensures in
     let within = map_within (named operation_object) operation_doc _ _ _ _ _ _ c.loop-key.invariant is in
-    passes_refusal (map_of_docs operation_doc) _ Memory _ _ _ _ c.from_residual.ensures.1 tt within.0 within.1
+    passes_refusal _ _ Memory _ _ _ _ c.from_residual.ensures.1 tt within.0 within.1
 
-pub read_operation_map-returns-in_err-value : goal.read_operation_map-returns-in_err-value
-read_operation_map-returns-in_err-value t c =
+pub fill_operation_map-returns-in_err-value : goal.fill_operation_map-returns-in_err-value
+fill_operation_map-returns-in_err-value t c =
     let all : c.into_iter-key-iterator.result ≡ c.in-Some.members.now.entries = c.into_iter-key-iterator.ensures.into_iter_gives ∙ c.iter-key-items.ensures.rest in
     let is : Some (members_view c.into_iter-key-iterator.result) ≡ as_object (view c.args.tree.now) = ap (λ vs. Some (members_view vs)) all ∙ c.in-Some.ensures in
     map_refused (named operation_object) operation_doc _ _ _ _ _ _ _ _ _ _ _ _ c.loop-key.invariant c.in-Some-2.ensures.steps is c.from_residual-in_err-value.ensures.1 c.in_err-value.ensures
 
-pub read_operation_map-returns-in_err-insert : goal.read_operation_map-returns-in_err-insert
-read_operation_map-returns-in_err-insert t c =
+pub fill_operation_map-returns-in_err-put : goal.fill_operation_map-returns-in_err-put
+fill_operation_map-returns-in_err-put t c =
     let all : c.into_iter-key-iterator.result ≡ c.in-Some.members.now.entries = c.into_iter-key-iterator.ensures.into_iter_gives ∙ c.iter-key-items.ensures.rest in
     let is : Some (members_view c.into_iter-key-iterator.result) ≡ as_object (view c.args.tree.now) = ap (λ vs. Some (members_view vs)) all ∙ c.in-Some.ensures in
     let within = map_within_next (named operation_object) operation_doc _ _ _ _ _ _ _ _ _ _ c.loop-key.invariant c.in-Some-2.ensures.steps is c.in_ok-value.ensures in
-    passes_refusal (map_of_docs operation_doc) _ Memory _ _ _ _ c.from_residual-in_err-insert.ensures.1 tt within.0 within.1
+    passes_refusal _ _ Memory _ _ _ _ c.from_residual-in_err-put.ensures.1 tt within.0 within.1
 
-pub read_operation_map-returns : goal.read_operation_map-returns
-read_operation_map-returns t c =
+pub fill_operation_map-returns : goal.fill_operation_map-returns
+fill_operation_map-returns t c =
     let all : c.into_iter-key-iterator.result ≡ c.in-Some.members.now.entries = c.into_iter-key-iterator.ensures.into_iter_gives ∙ c.iter-key-items.ensures.rest in
     let is : Some (members_view c.into_iter-key-iterator.result) ≡ as_object (view c.args.tree.now) = ap (λ vs. Some (members_view vs)) all ∙ c.in-Some.ensures in
-    map_read (named operation_object) operation_doc _ _ _ _ _ _ c.loop-key.invariant c.in-None.ensures.steps.0 is
+    reads_as (map_of_docs operation_doc) _ c.loop-key.map _ _ _ _ _ refl (map_read (named operation_object) operation_doc _ _ c.loop-key.map _ _ _ c.loop-key.invariant c.in-None.ensures.steps.0 is)
 
 pub read_ref_or_path_item-returns-in_err-reference : goal.read_ref_or_path_item-returns-in_err-reference
 read_ref_or_path_item-returns-in_err-reference t c = passes_memory _ c.read_plain.result _ _ _ _ _ _ c.from_residual.ensures.1 (sym c.in_err-reference.ensures) (omega arith) (omega arith)
@@ -315,87 +320,165 @@ read_path_item-returns-in_err-item t c =
 pub read_path_item-returns : goal.read_path_item-returns
 read_path_item-returns t c = c.assemble_path_item.ensures _ c.in_ok-item.ensures
 
-pub read_operations-returns-in_err-read_method : goal.read_operations-returns-in_err-read_method
-read_operations-returns-in_err-read_method t c =
-    passes_reads _ _ _ _ _ _ _ _ _ _ _ c.from_residual.ensures.1 c.in_err-read_method.ensures
+abbrev with_query : Option Operation → PathItemFields → PathItemFields
+with_query o i = record i { query = o }
+
+abbrev with_additional : Operations → PathItemFields → PathItemFields
+with_additional os i = record i { additional_operations = os }
+
+pub read_operations-returns : goal.read_operations-returns
+read_operations-returns t c = reads_where_done (λ i. list_doc (operations_of operation_doc (out-PathItem i))) _ c.fill_operations.result _ _ _ _ _ c.and.ensures c.fill_operations.ensures
+
+pub fill_method-returns-in_err-operation : goal.fill_method-returns-in_err-operation
+fill_method-returns-in_err-operation t c = record { ok = search rules; err = err_of _ _ _ c.from_residual.ensures.1 c.in_err-operation.ensures }
+
+pub fill_method-returns : goal.fill_method-returns
+fill_method-returns t c = record { ok = (c.in_ok-operation.operation, c.in_ok-operation.ensures, c.replace_operation.ensures.after); err = tt }
+
+pub fill_query-returns-in_err-operation : goal.fill_query-returns-in_err-operation
+fill_query-returns-in_err-operation t c = record { ok = search rules; err = err_of _ _ _ c.from_residual.ensures.1 c.in_err-operation.ensures }
+
+pub fill_query-returns : goal.fill_query-returns
+fill_query-returns t c =
+    let item : PathItemFields = out-PathItem c.args.item.now in
+    record {
+      ok = (
+        c.in_ok-operation.operation,
+        c.in_ok-operation.ensures,
+        out-roll-PathItem (record item { query = c.replace.new.dest }) ∙ ap {A = Option Operation} (λ o. record item { query = o }) c.replace.ensures.after,
+      );
+      err = tt;
+    }
+
+pub fill_additional_operations-returns-in_err-operations : goal.fill_additional_operations-returns-in_err-operations
+fill_additional_operations-returns-in_err-operations t c = record { ok = search rules; err = err_of _ _ _ c.from_residual.ensures.1 c.in_err-operations.ensures }
+
+pub fill_additional_operations-returns : goal.fill_additional_operations-returns
+fill_additional_operations-returns t c =
+    let item : PathItemFields = out-PathItem c.args.item.now in
+    record {
+      ok = (
+        c.in_ok-operations.operations,
+        c.in_ok-operations.ensures,
+        out-roll-PathItem (record item { additional_operations = c.replace.new.dest }) ∙ ap {A = Operations} (λ os. record item { additional_operations = os }) c.replace.ensures.after,
+      );
+      err = tt;
+    }
+
+pub fill_operations-returns-in_err-fill_method : goal.fill_operations-returns-in_err-fill_method
+fill_operations-returns-in_err-fill_method t c =
+    passes_reads _ _ _ _ _ _ _ _ _ _ _ c.from_residual.ensures.1 c.in_err-fill_method.ensures.err
     (λ h. refused_among [] (method_row (codes "get")) (drop 1 operations_rows) _ h)
     (omega arith)
     (omega (arith, operations_values (view c.args.tree.now)))
 
-pub read_operations-returns-in_err-read_method-2 : goal.read_operations-returns-in_err-read_method-2
-read_operations-returns-in_err-read_method-2 t c =
-    passes_reads _ _ _ _ _ _ _ _ _ _ _ c.from_residual-in_err-read_method-2.ensures.1 c.in_err-read_method-2.ensures
+pub fill_operations-returns-in_err-fill_method-2 : goal.fill_operations-returns-in_err-fill_method-2
+fill_operations-returns-in_err-fill_method-2 t c =
+    passes_reads _ _ _ _ _ _ _ _ _ _ _ c.from_residual-in_err-fill_method-2.ensures.1 c.in_err-fill_method-2.ensures.err
     (λ h. refused_among (take 1 operations_rows) (method_row (codes "put")) (drop 2 operations_rows) _ h)
-    (omega (arith, c.in_ok-read_method.ensures.grows))
-    (omega (arith, operations_values (view c.args.tree.now), c.in_ok-read_method.ensures.at_most))
+    (omega (arith, c.in_ok-fill_method.ensures.ok.1.grows))
+    (omega (arith, operations_values (view c.args.tree.now), c.in_ok-fill_method.ensures.ok.1.at_most))
 
-pub read_operations-returns-in_err-read_method-3 : goal.read_operations-returns-in_err-read_method-3
-read_operations-returns-in_err-read_method-3 t c =
-    passes_reads _ _ _ _ _ _ _ _ _ _ _ c.from_residual-in_err-read_method-3.ensures.1 c.in_err-read_method-3.ensures
+pub fill_operations-returns-in_err-fill_method-3 : goal.fill_operations-returns-in_err-fill_method-3
+fill_operations-returns-in_err-fill_method-3 t c =
+    passes_reads _ _ _ _ _ _ _ _ _ _ _ c.from_residual-in_err-fill_method-3.ensures.1 c.in_err-fill_method-3.ensures.err
     (λ h. refused_among (take 2 operations_rows) (method_row (codes "post")) (drop 3 operations_rows) _ h)
-    (omega (arith, c.in_ok-read_method.ensures.grows, c.in_ok-read_method-2.ensures.grows))
-    (omega (arith, operations_values (view c.args.tree.now), c.in_ok-read_method.ensures.at_most, c.in_ok-read_method-2.ensures.at_most))
+    (omega (arith, c.in_ok-fill_method.ensures.ok.1.grows, c.in_ok-fill_method-2.ensures.ok.1.grows))
+    (omega (arith, operations_values (view c.args.tree.now), c.in_ok-fill_method.ensures.ok.1.at_most, c.in_ok-fill_method-2.ensures.ok.1.at_most))
 
-pub read_operations-returns-in_err-read_method-4 : goal.read_operations-returns-in_err-read_method-4
-read_operations-returns-in_err-read_method-4 t c =
-    passes_reads _ _ _ _ _ _ _ _ _ _ _ c.from_residual-in_err-read_method-4.ensures.1 c.in_err-read_method-4.ensures
+pub fill_operations-returns-in_err-fill_method-4 : goal.fill_operations-returns-in_err-fill_method-4
+fill_operations-returns-in_err-fill_method-4 t c =
+    passes_reads _ _ _ _ _ _ _ _ _ _ _ c.from_residual-in_err-fill_method-4.ensures.1 c.in_err-fill_method-4.ensures.err
     (λ h. refused_among (take 3 operations_rows) (method_row (codes "delete")) (drop 4 operations_rows) _ h)
-    (omega (arith, c.in_ok-read_method.ensures.grows, c.in_ok-read_method-2.ensures.grows, c.in_ok-read_method-3.ensures.grows))
-    (omega (arith, operations_values (view c.args.tree.now), c.in_ok-read_method.ensures.at_most, c.in_ok-read_method-2.ensures.at_most, c.in_ok-read_method-3.ensures.at_most))
+    (omega (arith, c.in_ok-fill_method.ensures.ok.1.grows, c.in_ok-fill_method-2.ensures.ok.1.grows, c.in_ok-fill_method-3.ensures.ok.1.grows))
+    (omega (arith, operations_values (view c.args.tree.now), c.in_ok-fill_method.ensures.ok.1.at_most, c.in_ok-fill_method-2.ensures.ok.1.at_most, c.in_ok-fill_method-3.ensures.ok.1.at_most))
 
-pub read_operations-returns-in_err-read_method-5 : goal.read_operations-returns-in_err-read_method-5
-read_operations-returns-in_err-read_method-5 t c =
-    passes_reads _ _ _ _ _ _ _ _ _ _ _ c.from_residual-in_err-read_method-5.ensures.1 c.in_err-read_method-5.ensures
+pub fill_operations-returns-in_err-fill_method-5 : goal.fill_operations-returns-in_err-fill_method-5
+fill_operations-returns-in_err-fill_method-5 t c =
+    passes_reads _ _ _ _ _ _ _ _ _ _ _ c.from_residual-in_err-fill_method-5.ensures.1 c.in_err-fill_method-5.ensures.err
     (λ h. refused_among (take 4 operations_rows) (method_row (codes "options")) (drop 5 operations_rows) _ h)
-    (omega (arith, c.in_ok-read_method.ensures.grows, c.in_ok-read_method-2.ensures.grows, c.in_ok-read_method-3.ensures.grows, c.in_ok-read_method-4.ensures.grows))
-    (omega (arith, operations_values (view c.args.tree.now), c.in_ok-read_method.ensures.at_most, c.in_ok-read_method-2.ensures.at_most, c.in_ok-read_method-3.ensures.at_most, c.in_ok-read_method-4.ensures.at_most))
+    (omega (arith, c.in_ok-fill_method.ensures.ok.1.grows, c.in_ok-fill_method-2.ensures.ok.1.grows, c.in_ok-fill_method-3.ensures.ok.1.grows, c.in_ok-fill_method-4.ensures.ok.1.grows))
+    (omega (arith, operations_values (view c.args.tree.now), c.in_ok-fill_method.ensures.ok.1.at_most, c.in_ok-fill_method-2.ensures.ok.1.at_most, c.in_ok-fill_method-3.ensures.ok.1.at_most, c.in_ok-fill_method-4.ensures.ok.1.at_most))
 
-pub read_operations-returns-in_err-read_method-6 : goal.read_operations-returns-in_err-read_method-6
-read_operations-returns-in_err-read_method-6 t c =
-    passes_reads _ _ _ _ _ _ _ _ _ _ _ c.from_residual-in_err-read_method-6.ensures.1 c.in_err-read_method-6.ensures
+pub fill_operations-returns-in_err-fill_method-6 : goal.fill_operations-returns-in_err-fill_method-6
+fill_operations-returns-in_err-fill_method-6 t c =
+    passes_reads _ _ _ _ _ _ _ _ _ _ _ c.from_residual-in_err-fill_method-6.ensures.1 c.in_err-fill_method-6.ensures.err
     (λ h. refused_among (take 5 operations_rows) (method_row (codes "head")) (drop 6 operations_rows) _ h)
-    (omega (arith, c.in_ok-read_method.ensures.grows, c.in_ok-read_method-2.ensures.grows, c.in_ok-read_method-3.ensures.grows, c.in_ok-read_method-4.ensures.grows, c.in_ok-read_method-5.ensures.grows))
-    (omega (arith, operations_values (view c.args.tree.now), c.in_ok-read_method.ensures.at_most, c.in_ok-read_method-2.ensures.at_most, c.in_ok-read_method-3.ensures.at_most, c.in_ok-read_method-4.ensures.at_most, c.in_ok-read_method-5.ensures.at_most))
+    (omega (arith, c.in_ok-fill_method.ensures.ok.1.grows, c.in_ok-fill_method-2.ensures.ok.1.grows, c.in_ok-fill_method-3.ensures.ok.1.grows, c.in_ok-fill_method-4.ensures.ok.1.grows, c.in_ok-fill_method-5.ensures.ok.1.grows))
+    (omega (arith, operations_values (view c.args.tree.now), c.in_ok-fill_method.ensures.ok.1.at_most, c.in_ok-fill_method-2.ensures.ok.1.at_most, c.in_ok-fill_method-3.ensures.ok.1.at_most, c.in_ok-fill_method-4.ensures.ok.1.at_most, c.in_ok-fill_method-5.ensures.ok.1.at_most))
 
-pub read_operations-returns-in_err-read_method-7 : goal.read_operations-returns-in_err-read_method-7
-read_operations-returns-in_err-read_method-7 t c =
-    passes_reads _ _ _ _ _ _ _ _ _ _ _ c.from_residual-in_err-read_method-7.ensures.1 c.in_err-read_method-7.ensures
+pub fill_operations-returns-in_err-fill_method-7 : goal.fill_operations-returns-in_err-fill_method-7
+fill_operations-returns-in_err-fill_method-7 t c =
+    passes_reads _ _ _ _ _ _ _ _ _ _ _ c.from_residual-in_err-fill_method-7.ensures.1 c.in_err-fill_method-7.ensures.err
     (λ h. refused_among (take 6 operations_rows) (method_row (codes "patch")) (drop 7 operations_rows) _ h)
-    (omega (arith, c.in_ok-read_method.ensures.grows, c.in_ok-read_method-2.ensures.grows, c.in_ok-read_method-3.ensures.grows, c.in_ok-read_method-4.ensures.grows, c.in_ok-read_method-5.ensures.grows, c.in_ok-read_method-6.ensures.grows))
-    (omega (arith, operations_values (view c.args.tree.now), c.in_ok-read_method.ensures.at_most, c.in_ok-read_method-2.ensures.at_most, c.in_ok-read_method-3.ensures.at_most, c.in_ok-read_method-4.ensures.at_most, c.in_ok-read_method-5.ensures.at_most, c.in_ok-read_method-6.ensures.at_most))
+    (omega (arith, c.in_ok-fill_method.ensures.ok.1.grows, c.in_ok-fill_method-2.ensures.ok.1.grows, c.in_ok-fill_method-3.ensures.ok.1.grows, c.in_ok-fill_method-4.ensures.ok.1.grows, c.in_ok-fill_method-5.ensures.ok.1.grows, c.in_ok-fill_method-6.ensures.ok.1.grows))
+    (omega (arith, operations_values (view c.args.tree.now), c.in_ok-fill_method.ensures.ok.1.at_most, c.in_ok-fill_method-2.ensures.ok.1.at_most, c.in_ok-fill_method-3.ensures.ok.1.at_most, c.in_ok-fill_method-4.ensures.ok.1.at_most, c.in_ok-fill_method-5.ensures.ok.1.at_most, c.in_ok-fill_method-6.ensures.ok.1.at_most))
 
-pub read_operations-returns-in_err-read_method-8 : goal.read_operations-returns-in_err-read_method-8
-read_operations-returns-in_err-read_method-8 t c =
-    passes_reads _ _ _ _ _ _ _ _ _ _ _ c.from_residual-in_err-read_method-8.ensures.1 c.in_err-read_method-8.ensures
+pub fill_operations-returns-in_err-fill_method-8 : goal.fill_operations-returns-in_err-fill_method-8
+fill_operations-returns-in_err-fill_method-8 t c =
+    passes_reads _ _ _ _ _ _ _ _ _ _ _ c.from_residual-in_err-fill_method-8.ensures.1 c.in_err-fill_method-8.ensures.err
     (λ h. refused_among (take 7 operations_rows) (method_row (codes "trace")) (drop 8 operations_rows) _ h)
-    (omega (arith, c.in_ok-read_method.ensures.grows, c.in_ok-read_method-2.ensures.grows, c.in_ok-read_method-3.ensures.grows, c.in_ok-read_method-4.ensures.grows, c.in_ok-read_method-5.ensures.grows, c.in_ok-read_method-6.ensures.grows, c.in_ok-read_method-7.ensures.grows))
-    (omega (arith, operations_values (view c.args.tree.now), c.in_ok-read_method.ensures.at_most, c.in_ok-read_method-2.ensures.at_most, c.in_ok-read_method-3.ensures.at_most, c.in_ok-read_method-4.ensures.at_most, c.in_ok-read_method-5.ensures.at_most, c.in_ok-read_method-6.ensures.at_most, c.in_ok-read_method-7.ensures.at_most))
+    (omega (arith, c.in_ok-fill_method.ensures.ok.1.grows, c.in_ok-fill_method-2.ensures.ok.1.grows, c.in_ok-fill_method-3.ensures.ok.1.grows, c.in_ok-fill_method-4.ensures.ok.1.grows, c.in_ok-fill_method-5.ensures.ok.1.grows, c.in_ok-fill_method-6.ensures.ok.1.grows, c.in_ok-fill_method-7.ensures.ok.1.grows))
+    (omega (arith, operations_values (view c.args.tree.now), c.in_ok-fill_method.ensures.ok.1.at_most, c.in_ok-fill_method-2.ensures.ok.1.at_most, c.in_ok-fill_method-3.ensures.ok.1.at_most, c.in_ok-fill_method-4.ensures.ok.1.at_most, c.in_ok-fill_method-5.ensures.ok.1.at_most, c.in_ok-fill_method-6.ensures.ok.1.at_most, c.in_ok-fill_method-7.ensures.ok.1.at_most))
 
-pub read_operations-returns-in_err-read_method-9 : goal.read_operations-returns-in_err-read_method-9
-read_operations-returns-in_err-read_method-9 t c =
-    passes_reads _ _ _ _ _ _ _ _ _ _ _ c.from_residual-in_err-read_method-9.ensures.1 c.in_err-read_method-9.ensures
+pub fill_operations-returns-in_err-fill_query : goal.fill_operations-returns-in_err-fill_query
+fill_operations-returns-in_err-fill_query t c =
+    passes_reads _ _ _ _ _ _ _ _ _ _ _ c.from_residual-in_err-fill_query.ensures.1 c.in_err-fill_query.ensures.err
     (λ h. refused_among (take 8 operations_rows) (method_row (codes "query")) (drop 9 operations_rows) _ h)
-    (omega (arith, c.in_ok-read_method.ensures.grows, c.in_ok-read_method-2.ensures.grows, c.in_ok-read_method-3.ensures.grows, c.in_ok-read_method-4.ensures.grows, c.in_ok-read_method-5.ensures.grows, c.in_ok-read_method-6.ensures.grows, c.in_ok-read_method-7.ensures.grows, c.in_ok-read_method-8.ensures.grows))
-    (omega (arith, operations_values (view c.args.tree.now), c.in_ok-read_method.ensures.at_most, c.in_ok-read_method-2.ensures.at_most, c.in_ok-read_method-3.ensures.at_most, c.in_ok-read_method-4.ensures.at_most, c.in_ok-read_method-5.ensures.at_most, c.in_ok-read_method-6.ensures.at_most, c.in_ok-read_method-7.ensures.at_most, c.in_ok-read_method-8.ensures.at_most))
+    (omega (arith, c.in_ok-fill_method.ensures.ok.1.grows, c.in_ok-fill_method-2.ensures.ok.1.grows, c.in_ok-fill_method-3.ensures.ok.1.grows, c.in_ok-fill_method-4.ensures.ok.1.grows, c.in_ok-fill_method-5.ensures.ok.1.grows, c.in_ok-fill_method-6.ensures.ok.1.grows, c.in_ok-fill_method-7.ensures.ok.1.grows, c.in_ok-fill_method-8.ensures.ok.1.grows))
+    (omega (arith, operations_values (view c.args.tree.now), c.in_ok-fill_method.ensures.ok.1.at_most, c.in_ok-fill_method-2.ensures.ok.1.at_most, c.in_ok-fill_method-3.ensures.ok.1.at_most, c.in_ok-fill_method-4.ensures.ok.1.at_most, c.in_ok-fill_method-5.ensures.ok.1.at_most, c.in_ok-fill_method-6.ensures.ok.1.at_most, c.in_ok-fill_method-7.ensures.ok.1.at_most, c.in_ok-fill_method-8.ensures.ok.1.at_most))
 
-pub read_operations-returns-in_err-read_additional_operations : goal.read_operations-returns-in_err-read_additional_operations
-read_operations-returns-in_err-read_additional_operations t c =
-    passes_reads _ _ _ _ _ _ _ _ _ _ _ c.from_residual-in_err-read_additional_operations.ensures.1 c.in_err-read_additional_operations.ensures
+pub fill_operations-returns-in_err-fill_additional_operations : goal.fill_operations-returns-in_err-fill_additional_operations
+fill_operations-returns-in_err-fill_additional_operations t c =
+    passes_reads _ _ _ _ _ _ _ _ _ _ _ c.from_residual-in_err-fill_additional_operations.ensures.1 c.in_err-fill_additional_operations.ensures.err
     (λ h. refused_among (take 9 operations_rows) additional_row [] _ h)
-    (omega (arith, c.in_ok-read_method.ensures.grows, c.in_ok-read_method-2.ensures.grows, c.in_ok-read_method-3.ensures.grows, c.in_ok-read_method-4.ensures.grows, c.in_ok-read_method-5.ensures.grows, c.in_ok-read_method-6.ensures.grows, c.in_ok-read_method-7.ensures.grows, c.in_ok-read_method-8.ensures.grows, c.in_ok-read_method-9.ensures.grows))
-    (omega (arith, operations_values (view c.args.tree.now), c.in_ok-read_method.ensures.at_most, c.in_ok-read_method-2.ensures.at_most, c.in_ok-read_method-3.ensures.at_most, c.in_ok-read_method-4.ensures.at_most, c.in_ok-read_method-5.ensures.at_most, c.in_ok-read_method-6.ensures.at_most, c.in_ok-read_method-7.ensures.at_most, c.in_ok-read_method-8.ensures.at_most, c.in_ok-read_method-9.ensures.at_most))
+    (omega (arith, c.in_ok-fill_method.ensures.ok.1.grows, c.in_ok-fill_method-2.ensures.ok.1.grows, c.in_ok-fill_method-3.ensures.ok.1.grows, c.in_ok-fill_method-4.ensures.ok.1.grows, c.in_ok-fill_method-5.ensures.ok.1.grows, c.in_ok-fill_method-6.ensures.ok.1.grows, c.in_ok-fill_method-7.ensures.ok.1.grows, c.in_ok-fill_method-8.ensures.ok.1.grows, c.in_ok-fill_query.ensures.ok.1.grows))
+    (omega (arith, operations_values (view c.args.tree.now), c.in_ok-fill_method.ensures.ok.1.at_most, c.in_ok-fill_method-2.ensures.ok.1.at_most, c.in_ok-fill_method-3.ensures.ok.1.at_most, c.in_ok-fill_method-4.ensures.ok.1.at_most, c.in_ok-fill_method-5.ensures.ok.1.at_most, c.in_ok-fill_method-6.ensures.ok.1.at_most, c.in_ok-fill_method-7.ensures.ok.1.at_most, c.in_ok-fill_method-8.ensures.ok.1.at_most, c.in_ok-fill_query.ensures.ok.1.at_most))
 
-pub read_operations-returns : goal.read_operations-returns
-read_operations-returns t c =
+pub fill_operations-returns : goal.fill_operations-returns
+fill_operations-returns t c =
+    let get = c.in_ok-fill_method.ensures.ok in
+    let put = c.in_ok-fill_method-2.ensures.ok in
+    let post = c.in_ok-fill_method-3.ensures.ok in
+    let delete = c.in_ok-fill_method-4.ensures.ok in
+    let options = c.in_ok-fill_method-5.ensures.ok in
+    let head = c.in_ok-fill_method-6.ensures.ok in
+    let patch = c.in_ok-fill_method-7.ensures.ok in
+    let trace = c.in_ok-fill_method-8.ensures.ok in
+    let query = c.in_ok-fill_query.ensures.ok in
+    let additional = c.in_ok-fill_additional_operations.ensures.ok in
+    let methods = trace.2 ∙ ap (with_method Trace trace.0) (patch.2 ∙ ap (with_method Patch patch.0) (head.2 ∙ ap (with_method Head head.0) (options.2 ∙ ap (with_method Options options.0) (delete.2 ∙ ap (with_method Delete delete.0) (post.2 ∙ ap (with_method Post post.0) (put.2 ∙ ap (with_method Put put.0) (get.2))))))) in
+    let filled = additional.2 ∙ ap (with_additional additional.0) (query.2 ∙ ap (with_query query.0) methods) in
     let all = operations_read (view c.args.tree.now) _ _ _ _ _ _ _ _ _ _ _ _ _ _ _ _ _ _ _ _ _
-    c.in_ok-read_method.ensures
-    c.in_ok-read_method-2.ensures
-    c.in_ok-read_method-3.ensures
-    c.in_ok-read_method-4.ensures
-    c.in_ok-read_method-5.ensures
-    c.in_ok-read_method-6.ensures
-    c.in_ok-read_method-7.ensures
-    c.in_ok-read_method-8.ensures
-    c.in_ok-read_method-9.ensures
-    c.in_ok-read_additional_operations.ensures in
-    reads_as list_doc (λ i. list_doc (operations_of operation_doc (out-PathItem i))) _ _ _ _ _ _ (ap (λ i. list_doc (operations_of operation_doc i)) (sym (out-roll-PathItem _))) all
+    get.1
+    put.1
+    post.1
+    delete.1
+    options.1
+    head.1
+    patch.1
+    trace.1
+    query.1
+    additional.1 in
+    reads_as list_doc _ _ _ _ _ _ _ (ap (λ i. list_doc (operations_of operation_doc i)) (sym filled)) all
+
+pub read_callback-fill_callback-requires : goal.read_callback-fill_callback-requires
+read_callback-fill_callback-requires t c = (omega arith, search rules)
+
+pub read_callback-returns : goal.read_callback-returns
+read_callback-returns t c = reads_where_done callback_doc _ c.fill_callback.result _ _ _ _ _ c.and.ensures c.fill_callback.ensures
+
+pub read_callback_map-fill_callback_map-requires : goal.read_callback_map-fill_callback_map-requires
+read_callback_map-fill_callback_map-requires t c = (omega arith, search rules)
+
+pub read_callback_map-returns : goal.read_callback_map-returns
+read_callback_map-returns t c = reads_where_done callbacks_doc _ c.fill_callback_map.result _ _ _ _ _ c.and.ensures c.fill_callback_map.ensures
+
+pub read_operation_map-fill_operation_map-requires : goal.read_operation_map-fill_operation_map-requires
+read_operation_map-fill_operation_map-requires t c = (omega arith, search rules)
+
+pub read_operation_map-returns : goal.read_operation_map-returns
+read_operation_map-returns t c = reads_where_done (map_of_docs operation_doc) _ c.fill_operation_map.result _ _ _ _ _ c.and.ensures c.fill_operation_map.ensures
+
+pub read_operations-fill_operations-requires : goal.read_operations-fill_operations-requires
+read_operations-fill_operations-requires t c = (omega arith, tt)

@@ -3,7 +3,7 @@ use Rattle.std.proofs.Common.{◌≡◌, ◌∷◌, ◌++◌, String, Global, re
 use Rattle.std.proofs.lemmas.Result.{IfOk-weaker}
 use Rattle.serde_json.specs.Data.{Members, no_members, put}
 use Rattle.serde_json.specs.View.{view, members_view}
-use Rattle.utoipa_base.specs.Docs.{Doc, Docs, doc}
+use Rattle.utoipa_base.specs.Docs.{Doc, Docs, doc, docs_append}
 use Rattle.utoipa_base.specs.Extensions.{extensions_view, members_or_none}
 use Rattle.utoipa_base.specs.Fields.{put_field}
 use Rattle.utoipa_base.specs.Kinds.{operation_object, path_item_object, named, map_of, ref_or, optional, defaulted}
@@ -15,7 +15,7 @@ use Rattle.utoipa_base.specs.declared.refs.RefOr.{RefOr}
 use Rattle.utoipa_base.proofs.ByRows.{table_written, rows-cons, rows-nil, put_field-none, put_field-empty}
 use Rattle.utoipa_base.proofs.Empties.{vacant_entries}
 use Rattle.utoipa_base.proofs.Places.{write-ref, write-own}
-use Rattle.utoipa_base.proofs.TableParts.{docs_append, optional_written, default_written, on_ok}
+use Rattle.utoipa_base.proofs.TableParts.{optional_written, default_written, on_ok}
 use Rattle.utoipa_base.proofs.Weights.{weight, lighter_member, lighter_some, lighter_own}
 use Rattle.utoipa_base.proofs.WritingMaps.{written_begun, written_step, written_map}
 use Rattle.utoipa_path.specs.Docs.{CallbackOf, operation_doc, path_item_doc, callback_doc, callbacks_doc, operations_of}

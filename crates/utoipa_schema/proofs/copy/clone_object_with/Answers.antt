@@ -1,18 +1,26 @@
-use Rattle.std.proofs.Common.{refl}
-use Rattle.utoipa_base.specs.Kinds.{object_schema}
-use Rattle.utoipa_schema.specs.Parts.{object_head_docs, head_of_object, object_annotation_docs, annotations_of_object, number_limit_docs, number_limits_of_object, size_limit_and_content_docs, size_limits_and_content_of_object}
+use Rattle.std.proofs.Common.{◌∙◌, IfOk, refl, subst, ap}
+use Rattle.utoipa_base.specs.Kinds.{schema, object_schema}
+use Rattle.utoipa_base.specs.Refs.{ref_or_doc}
+use Rattle.utoipa_base.specs.Views.{boxed, option_of, map_of_docs}
 use Rattle.utoipa_base.proofs.TableParts.{same_field, same_part, same_table}
+use Rattle.utoipa_schema.specs.Choice.{content_schema_doc}
+use Rattle.utoipa_schema.specs.Docs.{schema_doc, additional_properties_doc}
+use Rattle.utoipa_schema.specs.Parts.{object_head_docs, head_of_object, object_annotation_docs, annotations_of_object, number_limit_docs, number_limits_of_object, size_limit_and_content_docs, size_limits_and_content_of_object, IsCopyOfParts}
 use Rattle.utoipa_schema.proofs.copy.clone_object_with.Goals as goal
 
 pub returns : goal.returns
 returns c = λ properties additional_properties property_names content_schema.
+    let object = c.args.object.now in
+    let made = c.in_ok-schemas.ensures.ok in
+    let parts = c.in_ok-schemas.parts in
+    let same : IsCopyOfParts object parts = subst (λ r. IfOk r (IsCopyOfParts object)) made.1 c.clone_object_parts.ensures in
     same_table object_schema _ _ _ _
-    (same_part (object_head_docs c.in_ok-head.head) (object_head_docs (head_of_object c.args.object.now)) _ _ c.in_ok-head.ensures
-    (same_field _ _ _ _ properties
-    (same_field _ _ _ _ additional_properties
-    (same_field _ _ _ _ property_names
-    (same_part (object_annotation_docs c.in_ok-annotations.annotations) (object_annotation_docs (annotations_of_object c.args.object.now)) _ _ c.in_ok-annotations.ensures
-    (same_part (number_limit_docs c.in_ok-numbers.numbers) (number_limit_docs (number_limits_of_object c.args.object.now)) _ _ c.in_ok-numbers.ensures
-    (same_part (size_limit_and_content_docs c.in_ok-sizes.sizes) (size_limit_and_content_docs (size_limits_and_content_of_object c.args.object.now)) _ _ c.in_ok-sizes.ensures
-    (same_field _ _ _ _ content_schema refl))))))))
-    c.in_ok-extensions.ensures
+    (same_part (object_head_docs parts.head) (object_head_docs (head_of_object object)) _ _ same.0
+    (same_field _ _ _ _ (ap (λ s. map_of_docs (ref_or_doc schema schema_doc) s.0) made.0 ∙ properties)
+    (same_field _ _ _ _ (ap (λ s. option_of (boxed (additional_properties_doc schema_doc)) s.1) made.0 ∙ additional_properties)
+    (same_field _ _ _ _ (ap (λ s. option_of (boxed schema_doc) s.2) made.0 ∙ property_names)
+    (same_part (object_annotation_docs parts.annotations) (object_annotation_docs (annotations_of_object object)) _ _ same.1
+    (same_part (number_limit_docs parts.numbers) (number_limit_docs (number_limits_of_object object)) _ _ same.2
+    (same_part (size_limit_and_content_docs parts.sizes) (size_limit_and_content_docs (size_limits_and_content_of_object object)) _ _ same.3
+    (same_field _ _ _ _ (ap (λ s. content_schema_doc s.3) made.0 ∙ content_schema) refl))))))))
+    same.4
