@@ -16,7 +16,7 @@ ghost use Rattle.utoipa_base.specs.Values.{values};
 use crate::extensions::{Extensions, read_extensions};
 use crate::fault::ReadFault;
 use crate::readings::Readings;
-use crate::table::{RowFields, RowValues, clone_rows};
+use crate::table::{CloneRows, RowFields, clone_rows};
 use serde_json::Value;
 use std::alloc::{AllocError, Global};
 
@@ -79,7 +79,7 @@ pub fn read_table_beside<R: RowFields, K: Drop>(
 
 /// Copies of the fields of some rows and of the extensions beside them, and a value that is kept. Fails where memory runs out, and then
 /// gives up what was kept.
-pub fn clone_rows_beside<R: RowValues, K: Drop>(
+pub fn clone_rows_beside<R: CloneRows, K: Drop>(
     alloc: Global,
     rows: &R,
     extensions: &Option<Extensions>,

@@ -230,9 +230,6 @@ pub fn read_table_alone<R: RowFields>(
 
 /// What is written of one row of a member table. The type tells the row's mark and kind; the name is given.
 pub trait RowValue {
-    /// What is read at such a row.
-    type Field: RowField;
-
     ghost line: { List ℕ → Row };
 
     // The row is of the name that is given.
@@ -258,6 +255,12 @@ pub trait RowValue {
     /// Prints what stands at the row's member, where it is not left out. Fails where memory runs out.
     fn print(&self, alloc: Global, out: &mut Writer) -> Result<(), AllocError>
         ensures { OnOk result (Prints (write (doc self.now)) out.old out.new) };
+}
+
+/// A row that can be copied. A trait of its own: a row that is written tells nothing of what is read at it.
+pub trait CloneRow: RowValue {
+    /// What is read at such a row.
+    type Field: RowField;
 
     /// A copy of the row's field. Fails where memory runs out.
     fn clone_field(&self, alloc: Global) -> Result<Self::Field, AllocError>
@@ -281,8 +284,6 @@ pub struct OrNullValue<'a, T>(pub &'a Option<T>);
 pub struct DefaultedValue<'a, T>(pub &'a T);
 
 impl<'a, T: Tree> RowValue for RequiredValue<'a, T> {
-    type Field = RequiredField<T>;
-
     ghost line = { λ name. row name required T.kind };
 
     ghost is_named = { λ _. refl };
@@ -305,6 +306,10 @@ impl<'a, T: Tree> RowValue for RequiredValue<'a, T> {
     fn print(&self, alloc: Global, out: &mut Writer) -> Result<(), AllocError> {
         self.0.print(alloc, out)
     }
+}
+
+impl<'a, T: Tree> CloneRow for RequiredValue<'a, T> {
+    type Field = RequiredField<T>;
 
     fn clone_field(&self, alloc: Global) -> Result<RequiredField<T>, AllocError> {
         Ok(RequiredField(self.0.try_clone(alloc)?))
@@ -312,8 +317,6 @@ impl<'a, T: Tree> RowValue for RequiredValue<'a, T> {
 }
 
 impl<'a, T: Tree> RowValue for OptionalValue<'a, T> {
-    type Field = OptionalField<T>;
-
     ghost line = { λ name. row name optional T.kind };
 
     ghost is_named = { λ _. refl };
@@ -339,6 +342,10 @@ impl<'a, T: Tree> RowValue for OptionalValue<'a, T> {
             None => out.null(),
         }
     }
+}
+
+impl<'a, T: Tree> CloneRow for OptionalValue<'a, T> {
+    type Field = OptionalField<T>;
 
     fn clone_field(&self, alloc: Global) -> Result<OptionalField<T>, AllocError> {
         Ok(OptionalField(clone_option(alloc, self.0)?))
@@ -346,8 +353,6 @@ impl<'a, T: Tree> RowValue for OptionalValue<'a, T> {
 }
 
 impl<'a, T: Tree> RowValue for OrNullValue<'a, T> {
-    type Field = OrNullField<T>;
-
     ghost line = { λ name. row name or_null T.kind };
 
     ghost is_named = { λ _. refl };
@@ -373,6 +378,10 @@ impl<'a, T: Tree> RowValue for OrNullValue<'a, T> {
             None => out.null(),
         }
     }
+}
+
+impl<'a, T: Tree> CloneRow for OrNullValue<'a, T> {
+    type Field = OrNullField<T>;
 
     fn clone_field(&self, alloc: Global) -> Result<OrNullField<T>, AllocError> {
         Ok(OrNullField(clone_option(alloc, self.0)?))
@@ -380,8 +389,6 @@ impl<'a, T: Tree> RowValue for OrNullValue<'a, T> {
 }
 
 impl<'a, T: Empty> RowValue for DefaultedValue<'a, T> {
-    type Field = DefaultedField<T>;
-
     ghost line = { λ name. row name defaulted T.kind };
 
     ghost is_named = { λ _. refl };
@@ -404,6 +411,10 @@ impl<'a, T: Empty> RowValue for DefaultedValue<'a, T> {
     fn print(&self, alloc: Global, out: &mut Writer) -> Result<(), AllocError> {
         self.0.print(alloc, out)
     }
+}
+
+impl<'a, T: Empty> CloneRow for DefaultedValue<'a, T> {
+    type Field = DefaultedField<T>;
 
     fn clone_field(&self, alloc: Global) -> Result<DefaultedField<T>, AllocError> {
         Ok(DefaultedField(self.0.try_clone(alloc)?))
@@ -412,9 +423,6 @@ impl<'a, T: Empty> RowValue for DefaultedValue<'a, T> {
 
 /// What is written of the rows of a member table: nested pairs of [`RowValue`]s that end in `()`.
 pub trait RowValues {
-    /// What is read at such rows.
-    type Fields: RowFields;
-
     ghost count: { ℕ };
 
     ghost rows: { List (List ℕ) → List Row };
@@ -444,6 +452,12 @@ pub trait RowValues {
         requires { length names.now ≡ count }
         ensures { IfOk result (λ left. PrintsAmong (row_members (docs self.now) (rows (texts names.now)))
             (pending_view pending.entry) (pending_view left) out.old out.new) };
+}
+
+/// Rows that can be copied.
+pub trait CloneRows: RowValues {
+    /// What is read at such rows.
+    type Fields: RowFields;
 
     /// Copies of the rows' fields. Fails where memory runs out.
     fn clone_fields(&self, alloc: Global) -> Result<Self::Fields, AllocError>
@@ -451,8 +465,6 @@ pub trait RowValues {
 }
 
 impl RowValues for () {
-    type Fields = ();
-
     ghost count = { 0 };
 
     ghost rows = { λ _. [] };
@@ -478,6 +490,10 @@ impl RowValues for () {
     ) -> Result<PendingExtensions<'a>, AllocError> {
         Ok(pending)
     }
+}
+
+impl CloneRows for () {
+    type Fields = ();
 
     fn clone_fields(&self, _alloc: Global) -> Result<(), AllocError> {
         Ok(())
@@ -485,8 +501,6 @@ impl RowValues for () {
 }
 
 impl<H: RowValue, R: RowValues> RowValues for (H, R) {
-    type Fields = (H::Field, R::Fields);
-
     ghost count = { R.count + 1 };
 
     ghost rows = { rows_from H.line R.rows };
@@ -513,6 +527,10 @@ impl<H: RowValue, R: RowValues> RowValues for (H, R) {
         let later = print_row(alloc, out, names[0], &self.0, pending)?;
         self.1.print(alloc, out, &names[1..], later)
     }
+}
+
+impl<H: CloneRow, R: CloneRows> CloneRows for (H, R) {
+    type Fields = (H::Field, R::Fields);
 
     fn clone_fields(&self, alloc: Global) -> Result<(H::Field, R::Fields), AllocError> {
         let first = self.0.clone_field(alloc)?;
@@ -522,7 +540,7 @@ impl<H: RowValue, R: RowValues> RowValues for (H, R) {
 }
 
 /// Copies of the fields of some rows, and of the extensions beside them. Fails where memory runs out.
-pub fn clone_rows<R: RowValues>(
+pub fn clone_rows<R: CloneRows>(
     alloc: Global,
     values: &R,
     extensions: &Option<Extensions>,

@@ -18,7 +18,7 @@ use crate::rows::{content_rows, encoding_head_rows, encoding_style_rows, header_
 use crate::types::{Content, Encoding, Header};
 use std::alloc::{AllocError, Global};
 use std::collections::BTreeMap;
-use utoipa_base::table::RowValues;
+use utoipa_base::table::CloneRows;
 use utoipa_base::{RefOr, Tree, beside, clone_rows_beside, row_values};
 
 /// Copies a content. Fails where memory runs out.

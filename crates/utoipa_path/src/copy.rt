@@ -25,7 +25,7 @@ use crate::types::{Callback, Operation, PathItem};
 use std::alloc::{AllocError, Global};
 use std::collections::BTreeMap;
 use std::mem;
-use utoipa_base::table::RowValues;
+use utoipa_base::table::CloneRows;
 use utoipa_base::{Extensions, Ref, RefOr, Tree, clone_extensions, row_fields, row_values};
 use utoipa_leaf::path::HttpMethod;
 
@@ -348,7 +348,7 @@ fn clone_operation_with(
 /// part. Fails where memory runs out, and then gives up what was kept.
 ///
 /// What is kept is of any type here, so that to give it up is one call at each part that may not be copied.
-fn clone_around<F: RowValues, S: RowValues, K: Drop, L: RowValues>(
+fn clone_around<F: CloneRows, S: CloneRows, K: Drop, L: CloneRows>(
     alloc: Global,
     first: &F,
     second: &S,

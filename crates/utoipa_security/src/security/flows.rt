@@ -259,8 +259,6 @@ pub(crate) struct FlowsValue<'a>(pub(crate) &'a BTreeMap<String, Flow>);
 
 #[tactic(auto, using(utoipa_base::proofs::ByRows::by_row))]
 impl<'a> RowValue for FlowsValue<'a> {
-    type Field = FlowsField;
-
     ghost line = { λ name. row name required kinds.flows };
 
     ghost is_named = { λ _. refl };
@@ -282,10 +280,6 @@ impl<'a> RowValue for FlowsValue<'a> {
 
     fn print(&self, alloc: Global, out: &mut Writer) -> Result<(), AllocError> {
         print_flows(alloc, out, self.0)
-    }
-
-    fn clone_field(&self, alloc: Global) -> Result<FlowsField, AllocError> {
-        Ok(FlowsField(clone_flows(alloc, self.0)?))
     }
 }
 

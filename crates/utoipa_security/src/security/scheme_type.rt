@@ -13,7 +13,7 @@ use json::Writer;
 use serde_json::{Map, Value, put};
 use std::alloc::{AllocError, Global};
 use utoipa_base::ReadFault;
-use utoipa_base::table::{RequiredField, RowValue};
+use utoipa_base::table::RowValue;
 
 /// The text of a member.
 ///
@@ -63,8 +63,6 @@ pub(crate) struct TypeValue<'a>(pub(crate) &'a str);
 
 #[tactic(auto, using(utoipa_base::proofs::ByRows::by_row, utoipa_base::proofs::ByKind::by_kind, utoipa_base::proofs::Tokens::by_tokens))]
 impl<'a> RowValue for TypeValue<'a> {
-    type Field = RequiredField<String>;
-
     ghost line = { λ name. row name required text };
 
     ghost is_named = { λ _. refl };
@@ -86,9 +84,5 @@ impl<'a> RowValue for TypeValue<'a> {
 
     fn print(&self, _alloc: Global, out: &mut Writer) -> Result<(), AllocError> {
         out.string(self.0)
-    }
-
-    fn clone_field(&self, alloc: Global) -> Result<RequiredField<String>, AllocError> {
-        Ok(RequiredField(String::from_str(alloc, self.0)?))
     }
 }

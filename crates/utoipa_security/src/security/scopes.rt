@@ -134,8 +134,6 @@ impl RowField for ScopesField {
 pub(crate) struct ScopesValue<'a>(pub(crate) &'a Scopes);
 
 impl<'a> RowValue for ScopesValue<'a> {
-    type Field = ScopesField;
-
     ghost line = { λ name. row name required (map_of text) };
 
     ghost is_named = { λ _. refl };
@@ -157,10 +155,6 @@ impl<'a> RowValue for ScopesValue<'a> {
 
     fn print(&self, alloc: Global, out: &mut Writer) -> Result<(), AllocError> {
         self.0.scopes.print(alloc, out)
-    }
-
-    fn clone_field(&self, alloc: Global) -> Result<ScopesField, AllocError> {
-        Ok(ScopesField(clone_scopes(alloc, self.0)?))
     }
 }
 
