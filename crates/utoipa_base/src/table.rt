@@ -264,7 +264,7 @@ pub trait CloneRow: RowValue {
 
     /// A copy of the row's field. Fails where memory runs out.
     fn clone_field(&self, alloc: Global) -> Result<Self::Field, AllocError>
-        ensures { IfOk result (λ copy. Self.Field.doc copy ≡ doc self.now) };
+        ensures { IfOk result (λ copy. Self.Field.doc copy ≡ Self.doc self.now) };
 }
 
 /// The value of a required member, to be written.
@@ -461,7 +461,7 @@ pub trait CloneRows: RowValues {
 
     /// Copies of the rows' fields. Fails where memory runs out.
     fn clone_fields(&self, alloc: Global) -> Result<Self::Fields, AllocError>
-        ensures { IfOk result (λ copy. Self.Fields.docs copy ≡ docs self.now) };
+        ensures { IfOk result (λ copy. Self.Fields.docs copy ≡ Self.docs self.now) };
 }
 
 impl RowValues for () {

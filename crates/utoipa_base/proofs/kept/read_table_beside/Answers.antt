@@ -1,8 +1,6 @@
-use Rattle.std.proofs.Common.{◌≡◌, ◌∙◌, ◌++◌, is_some, true, refl, sym, ap, arith, option_map}
+use Rattle.std.proofs.Common.{◌≡◌, ◌∙◌, ◌++◌, is_some, true, refl, sym, arith}
 use Rattle.serde_json.specs.Find.{as_object}
 use Rattle.serde_json.specs.View.{view}
-use Rattle.utoipa_base.specs.Docs.{table_doc}
-use Rattle.utoipa_base.specs.Extensions.{extensions_view}
 use Rattle.utoipa_base.specs.Rows.{texts}
 use Rattle.utoipa_base.specs.declared.fault.ReadFault.TheVariants.{Memory}
 use Rattle.utoipa_base.proofs.ByRows.{read-no_object}

@@ -1,4 +1,4 @@
-use Rattle.std.proofs.Common.{◌∙◌, None, Some, ap, sym}
+use Rattle.std.proofs.Common.{◌∙◌, Some, ap, sym}
 use Rattle.utoipa_schema.specs.Builders.{one_object}
 use Rattle.utoipa_schema.specs.Docs.{schema_doc, additional_properties_doc}
 use Rattle.utoipa_compose.specs.Compositions.{map_by, own_schema, place_doc}
