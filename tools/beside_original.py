@@ -1,0 +1,258 @@
+#!/usr/bin/env python3
+"""Compares the program utoipa_doc with the original crate, over many texts, and lays each difference to a row of docs/DIFFERENCES.md.
+
+usage: tools/beside_original.py [--original FOLDER] [--registry FOLDER] [--work FOLDER] [--program FILE] [--seed N] [--texts N]
+
+  --original FOLDER   the sources of the crate utoipa 6.0.0: its folder, or one that has its src/ alone, also with each file's path
+                      for its name, as src--openapi--tag.rs.txt. What is missing there stands in from tools/beside_original/stand_ins:
+                      a manifest, the macros, and the file of `Example`, of which the comparison then says nothing. Without this the
+                      crate comes from crates.io
+  --registry FOLDER   a folder of crates that stands in the place of crates.io, as Debian's packages librust-..-dev lay one down:
+                      serde, with its derive, serde_json and indexmap are needed
+  --work FOLDER       where the crate is put together and the driver is built, and stays for the next run; else that is done anew
+  --program FILE      the port's program; else the one that ./build makes
+  --seed N            of what is made by chance; else 1
+  --texts N           how many texts are made by chance, beside those of the cases, of examples/ and of the tables; else 40000
+
+Both are given each text: the original by the driver, a program of Rust that answers all of them in one run, the port in a run each.
+Two answers are alike where they are the same bytes, or where both refuse. A difference is laid to the fewest rows by which the
+one answer becomes the other, byte for byte (tools/beside_original/rules.py). Ends with status 1 where a difference is left that no
+row explains, or where the port refuses a text by a word that docs/FORMAT.md does not give it. Needs cargo.
+"""
+import argparse
+import collections
+import glob
+import os
+import shutil
+import subprocess
+import sys
+import tempfile
+import time
+
+ROOT = os.path.dirname(os.path.dirname(os.path.abspath(__file__)))
+DRIVER = os.path.join(ROOT, "tools", "beside_original")
+STAND_INS = os.path.join(DRIVER, "stand_ins")
+sys.path[:0] = [os.path.join(ROOT, "tools"), DRIVER]
+
+from cases import Format
+import rules
+import texts
+
+# An answer is a text, or None where the program refuses, and the word or the line by which it does.
+Answer = collections.namedtuple("Answer", "text refusal")
+
+
+# ---- the original
+
+
+def put_together(given, folder):
+    """Puts the crate together in the folder, from the sources that were given and what stands in for the rest."""
+    if os.path.isfile(os.path.join(given, "Cargo.toml")):
+        return given
+    shutil.rmtree(folder, ignore_errors=True)
+    os.makedirs(os.path.join(folder, "macros"))
+    for name, place in (("crate.toml", "Cargo.toml"), ("macros.toml", "macros/Cargo.toml"), ("macros.rs", "macros/macros.rs")):
+        shutil.copyfile(os.path.join(STAND_INS, name), os.path.join(folder, place))
+    for file in glob.glob(os.path.join(given, "**", "*.rs*"), recursive=True):
+        path = os.path.relpath(file, given).replace("--", "/").removesuffix(".txt")
+        if "src/" in path:
+            copy_to(file, os.path.join(folder, "src", path.rpartition("src/")[2]))
+    example = os.path.join(folder, "src", "openapi", "example.rs")
+    if not os.path.exists(example):
+        copy_to(os.path.join(STAND_INS, "example.rs"), example)
+    open(os.path.join(folder, "src", "gen.rs"), "a").close()
+    return folder
+
+
+def copy_to(file, place):
+    os.makedirs(os.path.dirname(place), exist_ok=True)
+    shutil.copyfile(file, place)
+
+
+def built_driver(options, work):
+    """Builds the driver over the original, and gives the path of its program."""
+    folder = os.path.join(work, "driver")
+    for name in ("Cargo.toml", "src/main.rs"):
+        copy_to(os.path.join(DRIVER, name), os.path.join(folder, name))
+    settings = []
+    if options.registry:
+        settings += ['source.crates-io.replace-with="folder"', 'source.folder.directory="%s"' % os.path.abspath(options.registry)]
+    if options.original:
+        settings.append('patch.crates-io.utoipa.path="%s"' % os.path.abspath(put_together(options.original, os.path.join(work, "utoipa"))))
+    command = ["cargo", "build", "--release", "--quiet"] + [word for it in settings for word in ("--config", it)]
+    environment = {**os.environ, "RUSTFLAGS": "--cap-lints allow"}
+    if subprocess.run(command, cwd=folder, env=environment).returncode:
+        sys.exit("beside_original: the driver is not built")
+    return os.path.join(folder, "target", "release", "beside_original")
+
+
+def answers_of_original(driver, way, asked):
+    """The original's answer to each text, read in this way: `text` or `tree`."""
+    requests = [("%s %s %d %s\n" % (way, it.command, len(it.bytes), it.base)).encode() + it.bytes for it in asked]
+    said = subprocess.run([driver], input=b"".join(requests), stdout=subprocess.PIPE, check=True).stdout
+    answers, start = [], 0
+    while start < len(said):
+        line = said.index(b"\n", start)
+        word, length = said[start:line].split()
+        start = line + 1 + int(length)
+        text = said[line + 1:start].decode()
+        answers.append(Answer(text, None) if word == b"ok" else Answer(None, text))
+    assert len(answers) == len(asked)
+    return answers
+
+
+# ---- the port
+
+
+def answer_of_port(program, text):
+    words = [text.command, text.base] if text.command == "nest" else [text.command]
+    ran = subprocess.run([program] + words, input=text.bytes, capture_output=True, timeout=60)
+    out, fault = ran.stdout.decode(errors="replace"), ran.stderr.decode(errors="replace")
+    if ran.returncode == 0 and not fault and out.endswith("\n"):
+        return Answer(out[:-1], None)
+    if ran.returncode == 1 and not out and fault.startswith("refused: "):
+        return Answer(None, fault[9:-1])
+    return Answer(None, "status %d, %r" % (ran.returncode, fault))
+
+
+# ---- comparing
+
+SAME, REFUSED, UNEXPLAINED = "same", "refused", "unexplained"
+
+
+class Comparison:
+    """Compares the answers to each text: tells that they are alike, or the rows by which they differ, or that no row does it."""
+
+    def __init__(self, form):
+        self.form = form
+
+    def compare(self, text, port, by_text, by_tree):
+        """The rows, or one of the words above alone."""
+        try:
+            tree, is_tree = rules.tree_of(text.bytes), True
+        except rules.Refused:
+            tree, is_tree = None, False
+        if not self.is_told_rightly(port, is_tree, tree):
+            return {UNEXPLAINED}
+        if port.text is None and by_text.text is None:
+            return {REFUSED}
+        if port.text == by_text.text:
+            return {SAME}
+        ordered, of_tree = in_order(by_text.text), in_order(by_tree.text)
+        if port.text == ordered:
+            return {rules.ORDER}
+        rows = set()
+        if ordered != of_tree:
+            rows = {rules.BY_TREE} if is_tree and rules.has_repeated(text.bytes) else {UNEXPLAINED}
+        return rows if port.text == of_tree else rows | self.rows_of_tree(text, port, of_tree, is_tree, tree)
+
+    def is_told_rightly(self, port, is_tree, tree):
+        """A text without a tree, and one with a fraction, are refused by their words, and nothing else is."""
+        word = "text" if not is_tree else "fraction" if rules.has_fraction(tree) else None
+        others = ("missing", "kind", "word", "alternative", "empty", "count")
+        return port.refusal == word or (word is None and port.refusal in others)
+
+    def rows_of_tree(self, text, port, of_tree, is_tree, tree):
+        """The rows that make the one answer of the other, where all of them tell the port's, and none of them the original's."""
+        if not is_tree or rules.answer(self.form, text, tree, set()) != of_tree:
+            return {UNEXPLAINED}
+        if rules.answer(self.form, text, tree, set(rules.ROWS)) != port.text:
+            return {UNEXPLAINED}
+        return rules.fewest_rows(self.form, text, tree)
+
+
+def in_order(text):
+    """An answer with its members in the order of their names, as the port writes it."""
+    return None if text is None else rules.line_of(rules.tree_of_answer(text))
+
+
+# ---- telling
+
+
+class Tally:
+    """How many texts of which kind differ by which rows, and the shortest of each row."""
+
+    def __init__(self):
+        self.sorts = collections.defaultdict(collections.Counter)
+        self.rows, self.alone, self.shortest, self.unexplained = collections.Counter(), collections.Counter(), {}, []
+
+    def add(self, text, rows, answers):
+        kind = next((it for it in (UNEXPLAINED, SAME, REFUSED, rules.ORDER) if it in rows), "rows")
+        self.sorts[text.sort][kind] += 1
+        if UNEXPLAINED in rows:
+            self.unexplained.append((text, answers))
+            return
+        for row in rows - {SAME, REFUSED}:
+            self.rows[row] += 1
+            self.alone[row] += len(rows) == 1
+            if row not in self.shortest or len(text.bytes) < len(self.shortest[row].bytes):
+                self.shortest[row] = text
+
+    def tell(self):
+        kinds = {SAME: "same bytes", REFUSED: "both refuse", rules.ORDER: "order alone", "rows": "other rows", UNEXPLAINED: "no row"}
+        print("%-10s" % "texts" + "".join("%14s" % it for it in ["all", *kinds.values()]))
+        for sort, counts in [*self.sorts.items(), ("all", sum(self.sorts.values(), collections.Counter()))]:
+            print("%-10s%14d" % (sort, sum(counts.values())) + "".join("%14d" % counts[it] for it in kinds))
+        for row, words in {**rules.TOLD, **rules.ROWS}.items():
+            print("\n%6d  by %s" % (self.rows[row], words), "(%d by this row alone)" % self.alone[row] if self.rows[row] else "")
+            if row in self.shortest:
+                print("        as " + told(self.shortest[row]))
+
+    def tell_unexplained(self):
+        for text, answers in sorted(self.unexplained, key=lambda it: len(it[0].bytes))[:20]:
+            print("\nno row: " + told(text, 2000))
+            for name, answer in zip(("port", "original", "original, by the tree"), answers):
+                print("  %s: %s" % (name, answer.text if answer.text is not None else "refused: " + answer.refusal))
+
+
+def told(text, length=150):
+    words = [text.command] + [repr(text.base)] * (text.command == "nest")
+    return " ".join(words) + " " + text.bytes.decode(errors="backslashreplace")[:length]
+
+
+def check_rows():
+    """Each rule has its row."""
+    with open(os.path.join(ROOT, "docs", "DIFFERENCES.md"), encoding="utf-8") as page:
+        lines = page.read().split("\n")
+    for words in {**rules.ROWS, **rules.TOLD}.values():
+        if not any(line.startswith("| " + words) for line in lines):
+            sys.exit("beside_original: docs/DIFFERENCES.md has no row that begins: " + words)
+
+
+def compared(options, driver):
+    with open(os.path.join(ROOT, "docs", "FORMAT.md"), encoding="utf-8") as page:
+        form = Format(page.read())
+    asked, tally, comparison = texts.all_texts(ROOT, form, options.seed, options.texts), Tally(), Comparison(form)
+    by_text, by_tree = (answers_of_original(driver, way, asked) for way in ("text", "tree"))
+    for text, *original in zip(asked, by_text, by_tree):
+        port = answer_of_port(options.program, text)
+        tally.add(text, comparison.compare(text, port, *original), (port, *original))
+    return tally
+
+
+def options_of(words):
+    parser = argparse.ArgumentParser(usage=__doc__)
+    for name in ("--original", "--registry", "--work"):
+        parser.add_argument(name)
+    parser.add_argument("--program", default=os.path.join(ROOT, "crates", "utoipa_doc", "out", "utoipa_doc"))
+    parser.add_argument("--seed", type=int, default=1)
+    parser.add_argument("--texts", type=int, default=40000)
+    return parser.parse_args(words)
+
+
+def main():
+    options, began = options_of(sys.argv[1:]), time.time()
+    check_rows()
+    if not os.access(options.program, os.X_OK):
+        sys.exit("beside_original: no program at %s: ./build makes it" % options.program)
+    with tempfile.TemporaryDirectory(prefix="beside-original-") as folder:
+        tally = compared(options, built_driver(options, options.work or folder))
+    tally.tell()
+    tally.tell_unexplained()
+    print("\nseed %d, %d texts by chance: %d of all differ by no row; %d seconds"
+          % (options.seed, options.texts, len(tally.unexplained), time.time() - began))
+    return 1 if tally.unexplained else 0
+
+
+if __name__ == "__main__":
+    sys.exit(main())
