@@ -132,7 +132,7 @@ class Comparison:
             tree, is_tree = rules.tree_of(text.bytes), True
         except rules.Refused:
             tree, is_tree = None, False
-        if not self.is_told_rightly(port, is_tree, tree):
+        if not self.is_told_rightly(text, port, is_tree, tree):
             return {UNEXPLAINED}
         if port.text is None and by_text.text is None:
             return {REFUSED}
@@ -146,11 +146,12 @@ class Comparison:
             rows = {rules.BY_TREE} if is_tree and rules.has_repeated(text.bytes) else {UNEXPLAINED}
         return rows if port.text == of_tree else rows | self.rows_of_tree(text, port, of_tree, is_tree, tree)
 
-    def is_told_rightly(self, port, is_tree, tree):
+    def is_told_rightly(self, text, port, is_tree, tree):
         """A text without a tree, and one with a fraction, are refused by their words, and nothing else is."""
-        word = "text" if not is_tree else "fraction" if rules.has_fraction(tree) else None
-        others = ("missing", "kind", "word", "alternative", "empty", "count")
-        return port.refusal == word or (word is None and port.refusal in others)
+        if not is_tree or rules.has_fraction(tree):
+            return port.refusal == ("fraction" if is_tree else "text")
+        number = {"merge": ["empty"], "nest": ["count"]}.get(text.command, [])
+        return port.refusal in [None, "missing", "kind", "word", "alternative", *number]
 
     def rows_of_tree(self, text, port, of_tree, is_tree, tree):
         """The rows that make the one answer of the other, where all of them tell the port's, and none of them the original's."""
@@ -205,16 +206,29 @@ class Tally:
                 print("  %s: %s" % (name, answer.text if answer.text is not None else "refused: " + answer.refusal))
 
 
+def tell_times(driver, program):
+    """The row that only time shows."""
+    print("\n        by " + rules.TIMED)
+    for levels in (12, 16, 20):
+        deep = b'{"type":"string","contentSchema":' * levels + b'{"type":"string"}' + b"}" * levels
+        text, began = texts.Text("deep", "schema", "", deep), time.time()
+        answers_of_original(driver, "text", [text])
+        asked = time.time()
+        answer_of_port(program, text)
+        print("        %d levels: the original %.3f seconds, the port %.3f" % (levels, asked - began, time.time() - asked))
+
+
 def told(text, length=150):
     words = [text.command] + [repr(text.base)] * (text.command == "nest")
-    return " ".join(words) + " " + text.bytes.decode(errors="backslashreplace")[:length]
+    shown = "".join(it if it.isprintable() else ascii(it)[1:-1] for it in text.bytes.decode(errors="backslashreplace"))
+    return " ".join(words) + " " + shown[:length]
 
 
 def check_rows():
     """Each rule has its row."""
     with open(os.path.join(ROOT, "docs", "DIFFERENCES.md"), encoding="utf-8") as page:
         lines = page.read().split("\n")
-    for words in {**rules.ROWS, **rules.TOLD}.values():
+    for words in [*rules.ROWS.values(), *rules.TOLD.values(), rules.TIMED]:
         if not any(line.startswith("| " + words) for line in lines):
             sys.exit("beside_original: docs/DIFFERENCES.md has no row that begins: " + words)
 
@@ -246,8 +260,10 @@ def main():
     if not os.access(options.program, os.X_OK):
         sys.exit("beside_original: no program at %s: ./build makes it" % options.program)
     with tempfile.TemporaryDirectory(prefix="beside-original-") as folder:
-        tally = compared(options, built_driver(options, options.work or folder))
-    tally.tell()
+        driver = built_driver(options, options.work or folder)
+        tally = compared(options, driver)
+        tally.tell()
+        tell_times(driver, options.program)
     tally.tell_unexplained()
     print("\nseed %d, %d texts by chance: %d of all differ by no row; %d seconds"
           % (options.seed, options.texts, len(tally.unexplained), time.time() - began))

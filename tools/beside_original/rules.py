@@ -1,8 +1,8 @@
 """What is written for a text, by the tables of docs/FORMAT.md and any of the rows of docs/DIFFERENCES.md.
 
-Each row of ROWS is a rule, which is tried in the one place of this file that asks for it. With all of them this tells what the
-port answers, with none what the original does, and with some what a program would that differs from the original by these alone.
-So a difference is explained by the fewest rows that make the one answer of the other.
+Each row of ROWS is a rule, asked for by its name where the two programs part. With all of them this tells what the port answers,
+with none what the original does, and with some what a program would that differs from the original by these alone. So a difference
+is explained by the fewest rows that make the one answer of the other.
 """
 import json
 import re
@@ -25,12 +25,13 @@ ROWS = {
     "without a path": "Paths extensions of a document without a path are dropped",
     "fractions": "Fractions are kept",
 }
-# These two are told by comparing alone: they make no answer of a tree another.
+# These two are told by comparing alone: they make no answer of a tree another. The third only takes time.
 BY_TREE, ORDER = "by tree", "order"
 TOLD = {
     BY_TREE: "A repeated member that a table names is refused",
     ORDER: "Members in the order of fields",
 }
+TIMED = "`contentSchema` is read twice a level"
 
 
 class Refused(Exception):

@@ -87,6 +87,13 @@ ODD = [None, True, False, 0, 1, 2, 4, 5, -1, 2**63 - 1, 2**63, 2**64 - 1, 2**64,
 WORDS_OF_TEXTS = ["", "t", "\u00e9", "\u0001\"\\/\n", "\U00010000", "x-a", "null", "#/components/schemas/a"]
 VERSIONS = ["3.1.0", "3.2.0", "3.1.1", "+3.1.0", "3.1.x.0", "3.1", "3.1.200", "3.0.3", "3.2.-0", "3.1.0.", "03.01.7", "-3.1.0", " 3.1.0",
             "3.1.-128", "3.1.128", "3.2.\u0663"]
+# Names and words of the standards that no table has, for a program may know them all the same.
+OTHER_NAMES = """allowEmptyValue defaultMapping const not if then else dependentSchemas dependentRequired patternProperties contains minContains
+    maxContains unevaluatedItems unevaluatedProperties $id $anchor $dynamicRef $dynamicAnchor $vocabulary $comment $defs definitions nullable
+    dataValue serializedValue collectionFormat basePath host schemes consumes produces connect connection produces id divisibleBy mutualTLS
+    deprecatedBy itemName nodeName namespaceUri zzz X-a""".split()
+OTHER_WORDS = """uuid uri uri-reference iri ulid int8 uint32 UInt32 body formData connect any file ssv tsv csv multi oauth2 mutualTLS Basic oAuth
+    scramSha1 scram-sha-512 privatetoken concealed dpop gnap query-string queryString space-delimited DateTime dateTime url""".split()
 LETTERS = [b"{", b"}", b"[", b"]", b'"', b":", b",", b"\\", b"0", b"9", b"-", b"+", b".", b"e5", b"E9999", b" ", b"\n", b"\t", b"\x00",
            b"\xff", b"\xc3", b"\xed\xa0\x80", b"\\ud800", b"\\u0041", b"null", b"true", b"NaN", b"\xef\xbb\xbf", b"x", b"/**/", b"1e400",
            b"-0", b"00", b"[1]", b"{}", b'"x-z":1,', b'"type":"string",', b'"url":"a",', b'"openapi":"3.1.0",', b'"$ref":"#/b",']
@@ -144,6 +151,19 @@ def texts_of_members(form):
                     yield in_place("member", place, {**others, member: value})
 
 
+def texts_of_other_names(form):
+    """Each type with all names at once that are members of other types, or of none."""
+    known = {it for rows in form.tables.values() for it, _, _ in rows}
+    for name, places in PLACES.items():
+        own = {it for it, _, _ in form.tables[name]} | {"$ref", "type", "in", "items", "oneOf", "allOf", "anyOf"}
+        others = [it for it in [*sorted(known), *OTHER_NAMES] if it not in own]
+        for place in places[:2]:
+            for value in ODD:
+                yield in_place("names", place, {**form.smallest(name), **dict.fromkeys(others, value)})
+        for other in others:
+            yield in_place("names", places[0], {**form.smallest(name), other: "t"})
+
+
 def in_place(sort, place, tree):
     command, whole = place(tree)
     return Text(sort, command, "", bytes_of(whole))
@@ -152,7 +172,8 @@ def in_place(sort, place, tree):
 def values_of(form, kind):
     words = form.words.get(kind, [])
     spelled = [spelling for it in words for spelling in (it, it.upper(), {it: None}, {it: 5}, [it])]
-    values = ODD + spelled + [form.fitting(kind)] + (VERSIONS if kind == "version" else [])
+    values = ODD + spelled + [form.fitting(kind)] + (OTHER_WORDS if words or kind.startswith("Schema") else [])
+    values += VERSIONS if kind == "version" else []
     if kind.startswith("list of "):
         values = values + [[it] for it in ODD]
     if "map of " in kind:
@@ -224,7 +245,7 @@ class Maker:
         if self.chance.random() < 0.12:
             tree["x-" + self.chance.choice("ab")] = self.make_any(2)
         if self.chance.random() < 0.04:
-            tree[self.chance.choice(["zzz", "X-a", "const", "not", "type", "$ref", "default"])] = self.chance.choice(["t", 5, None])
+            tree[self.chance.choice(OTHER_NAMES + ["type", "$ref", "default", "summary"])] = self.chance.choice(["t", 5, None])
         if name == "Xml" and self.does("lists"):
             return [tree.get(it) for it in "name namespace prefix nodeType attribute wrapped".split()]
         members = list(tree.items())
@@ -489,7 +510,8 @@ def is_short_of_time(text):
 def all_texts(root, form, seed, number):
     """Those of the cases, of examples/ and of the tables, and as many as the number says that are made by chance, each once."""
     others = [*texts_of_examples(root), *texts_of_cases(root)]
-    texts = [*others, *texts_of_members(form), *texts_of_choices(), *texts_of_limits(), *texts_by_chance(form, seed, number, others)]
+    texts = [*others, *texts_of_members(form), *texts_of_other_names(form), *texts_of_choices(), *texts_of_limits()]
+    texts += texts_by_chance(form, seed, number, others)
     once = {}
     for text in texts:
         if not is_short_of_time(text):
