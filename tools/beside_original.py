@@ -155,7 +155,8 @@ class Comparison:
 
     def rows_of_tree(self, text, port, of_tree, is_tree, tree):
         """The rows that make the one answer of the other, where all of them tell the port's, and none of them the original's."""
-        if not is_tree or rules.answer(self.form, text, tree, set()) != of_tree:
+        kept = rules.rounded if rules.has_fraction(tree) else lambda line: line
+        if not is_tree or kept(rules.answer(self.form, text, tree, set())) != kept(of_tree):
             return {UNEXPLAINED}
         if rules.answer(self.form, text, tree, set(rules.ROWS)) != port.text:
             return {UNEXPLAINED}

@@ -62,19 +62,26 @@ def no_constant(text):
     raise ValueError("no JSON: " + text)
 
 
-def depth_of(tree):
-    below = tree.values() if isinstance(tree, dict) else tree if isinstance(tree, list) else None
-    return 0 if below is None else 1 + max(map(depth_of, below), default=0)
+def check_whole(text):
+    """Refuses a JSON text that nests deeper than 127, or has half a pair of surrogates: both also in what a later member replaces."""
+    depth = 0
+    for token in re.findall(r'"(?:\\.|[^"\\])*"|[][{}]', text):
+        if token[0] == '"':
+            if "\\u" in token:
+                json.loads(token).encode()
+        else:
+            depth += 1 if token in "[{" else -1
+            if depth > 127:
+                raise ValueError("too deep")
 
 
 def tree_of(text):
     """The tree of a text; refused where there is none."""
     try:
-        tree = json.loads(text.decode(), parse_int=number_of, parse_float=number_of, parse_constant=no_constant)
-        json.dumps(tree, ensure_ascii=False).encode()
+        spelled = text.decode()
+        tree = json.loads(spelled, parse_int=number_of, parse_float=number_of, parse_constant=no_constant)
+        check_whole(spelled)
     except (ValueError, OverflowError, RecursionError):
-        raise Refused("text")
-    if depth_of(tree) > 127:
         raise Refused("text")
     return tree
 
@@ -119,6 +126,12 @@ def has_fraction(tree):
     if isinstance(tree, (dict, list)):
         return any(map(has_fraction, tree.values() if isinstance(tree, dict) else tree))
     return type(tree) is float
+
+
+def rounded(line):
+    """A line whose numbers have fourteen digits: serde_json reads the last ones of some fractions otherwise than Python does."""
+    number = r"-?[0-9]+(?:\.[0-9]+)?(?:e[+-]?[0-9]+)?"
+    return None if line is None else re.sub(number, lambda it: "%.14g" % float(it[0]), line)
 
 
 # ---- reading and writing
