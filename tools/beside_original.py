@@ -106,7 +106,10 @@ def answers_of_original(driver, way, asked):
 
 def answer_of_port(program, text):
     words = [text.command, text.base] if text.command == "nest" else [text.command]
-    ran = subprocess.run([program] + words, input=text.bytes, capture_output=True, timeout=60)
+    try:
+        ran = subprocess.run([program] + words, input=text.bytes, capture_output=True, timeout=60)
+    except subprocess.TimeoutExpired:
+        return Answer(None, "no answer in a minute")
     out, fault = ran.stdout.decode(errors="replace"), ran.stderr.decode(errors="replace")
     if ran.returncode == 0 and not fault and out.endswith("\n"):
         return Answer(out[:-1], None)
@@ -246,7 +249,8 @@ def compared(options, driver):
 
 
 def options_of(words):
-    parser = argparse.ArgumentParser(usage=__doc__)
+    parser = argparse.ArgumentParser(usage=__doc__.split("\n")[2][7:])
+    parser.format_help = lambda: __doc__
     for name in ("--original", "--registry", "--work"):
         parser.add_argument(name)
     parser.add_argument("--program", default=os.path.join(ROOT, "crates", "utoipa_doc", "out", "utoipa_doc"))
@@ -258,6 +262,8 @@ def options_of(words):
 def main():
     options, began = options_of(sys.argv[1:]), time.time()
     check_rows()
+    if not shutil.which("cargo"):
+        sys.exit("beside_original: the command 'cargo' has to be on the path")
     if not os.access(options.program, os.X_OK):
         sys.exit("beside_original: no program at %s: ./build makes it" % options.program)
     with tempfile.TemporaryDirectory(prefix="beside-original-") as folder:

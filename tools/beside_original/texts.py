@@ -91,7 +91,7 @@ VERSIONS = ["3.1.0", "3.2.0", "3.1.1", "+3.1.0", "3.1.x.0", "3.1", "3.1.200", "3
 OTHER_NAMES = """allowEmptyValue defaultMapping const not if then else dependentSchemas dependentRequired patternProperties contains minContains
     maxContains unevaluatedItems unevaluatedProperties $id $anchor $dynamicRef $dynamicAnchor $vocabulary $comment $defs definitions nullable
     dataValue serializedValue collectionFormat basePath host schemes consumes produces connect connection produces id divisibleBy mutualTLS
-    deprecatedBy itemName nodeName namespaceUri zzz X-a""".split()
+    deprecatedBy itemName nodeName namespaceUri zzz X-a x-a x-""".split()
 OTHER_WORDS = """uuid uri uri-reference iri ulid int8 uint32 UInt32 body formData connect any file ssv tsv csv multi oauth2 mutualTLS Basic oAuth
     scramSha1 scram-sha-512 privatetoken concealed dpop gnap query-string queryString space-delimited DateTime dateTime url""".split()
 LETTERS = [b"{", b"}", b"[", b"]", b'"', b":", b",", b"\\", b"0", b"9", b"-", b"+", b".", b"e5", b"E9999", b" ", b"\n", b"\t", b"\x00",
