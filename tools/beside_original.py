@@ -1,7 +1,8 @@
 #!/usr/bin/env python3
 """Compares the program utoipa_doc with the original crate, over many texts, and lays each difference to a row of docs/DIFFERENCES.md.
 
-usage: tools/beside_original.py [--original FOLDER] [--registry FOLDER] [--work FOLDER] [--program FILE] [--seed N] [--texts N]
+usage: tools/beside_original.py [--original FOLDER] [--registry FOLDER] [--work FOLDER] [--program FILE | --interpreted]
+                                [--seed N] [--texts N]
 
   --original FOLDER   the sources of the crate utoipa 6.0.0: its folder, or one that has its src/ alone, also with each file's path
                       for its name, as src--openapi--tag.rs.txt. What is missing there stands in from tools/beside_original/stand_ins:
@@ -11,18 +12,23 @@ usage: tools/beside_original.py [--original FOLDER] [--registry FOLDER] [--work 
                       serde, with its derive, serde_json and indexmap are needed
   --work FOLDER       where the crate is put together and the driver is built, and stays for the next run; else that is done anew
   --program FILE      the port's program; else the one that ./build makes
+  --interpreted       the port, where it is not built: unproved, by the toolchain's interpreter, which answers in some five minutes
+                      as many of the texts, picked by chance, as it has room for
   --seed N            of what is made by chance; else 1
   --texts N           how many texts are made by chance, beside those of the cases, of examples/ and of the tables; else 40000
 
-Both are given each text: the original by the driver, a program of Rust that answers all of them in one run, the port in a run each.
+Both are given each text: the original by the driver, a program of Rust that answers all of them in one run, the port in a run each
+(interpreted, all in a run of the program of cases).
 Two answers are alike where they are the same bytes, or where both refuse. A difference is laid to the fewest rows by which the
 one answer becomes the other, byte for byte (tools/beside_original/rules.py). Ends with status 1 where a difference is left that no
 row explains, or where the port refuses a text by a word that docs/FORMAT.md does not give it. Needs cargo.
 """
 import argparse
 import collections
+import filecmp
 import glob
 import os
+import random
 import shutil
 import subprocess
 import sys
@@ -49,10 +55,8 @@ def put_together(given, folder):
     """Puts the crate together in the folder, from the sources that were given and what stands in for the rest."""
     if os.path.isfile(os.path.join(given, "Cargo.toml")):
         return given
-    shutil.rmtree(folder, ignore_errors=True)
-    os.makedirs(os.path.join(folder, "macros"))
     for name, place in (("crate.toml", "Cargo.toml"), ("macros.toml", "macros/Cargo.toml"), ("macros.rs", "macros/macros.rs")):
-        shutil.copyfile(os.path.join(STAND_INS, name), os.path.join(folder, place))
+        copy_to(os.path.join(STAND_INS, name), os.path.join(folder, place))
     for file in glob.glob(os.path.join(given, "**", "*.rs*"), recursive=True):
         path = os.path.relpath(file, given).replace("--", "/").removesuffix(".txt")
         if "src/" in path:
@@ -60,13 +64,17 @@ def put_together(given, folder):
     example = os.path.join(folder, "src", "openapi", "example.rs")
     if not os.path.exists(example):
         copy_to(os.path.join(STAND_INS, "example.rs"), example)
-    open(os.path.join(folder, "src", "gen.rs"), "a").close()
+    generated = os.path.join(folder, "src", "gen.rs")
+    if not os.path.exists(generated):
+        open(generated, "x").close()
     return folder
 
 
 def copy_to(file, place):
+    """Copies a file, where it isn't there already: cargo builds anew what is newer."""
     os.makedirs(os.path.dirname(place), exist_ok=True)
-    shutil.copyfile(file, place)
+    if not os.path.exists(place) or not filecmp.cmp(file, place, shallow=False):
+        shutil.copyfile(file, place)
 
 
 def built_driver(options, work):
@@ -116,6 +124,28 @@ def answer_of_port(program, text):
     if ran.returncode == 1 and not out and fault.startswith("refused: "):
         return Answer(None, fault[9:-1])
     return Answer(None, "status %d, %r" % (ran.returncode, fault))
+
+
+def with_room(asked, seed):
+    """Texts picked by chance, as many as the interpreter has room to answer: it writes a mebibyte at most."""
+    picked, room = [], 900000
+    for text in random.Random(seed).sample(asked, len(asked)):
+        room -= len(text.bytes) + 40
+        if room < 0:
+            break
+        picked.append(text)
+    return picked
+
+
+def answers_of_interpreter(asked):
+    """The port's answers, by the program of cases, unproved: its call `run-hex` runs the command on a text."""
+    lines = ["run-hex %s\t%s\n" % (it.command + ("|" + it.base) * (it.command == "nest"), it.bytes.hex()) for it in asked]
+    folder = os.path.join(ROOT, "crates", "utoipa_document_cases")
+    ran = subprocess.run(["rt", "try", "--seconds", "1800"], cwd=folder, input="".join(lines).encode(), capture_output=True)
+    said = ran.stdout.decode().split("\n")[:len(asked)]
+    if len(said) < len(asked) or ran.returncode:
+        sys.exit("beside_original: the interpreter broke off:\n" + ran.stderr.decode(errors="replace")[-2000:])
+    return [Answer(it[2:], None) if it.startswith("0 ") else Answer(None, it.removeprefix("1 refused: ")) for it in said]
 
 
 # ---- comparing
@@ -241,36 +271,48 @@ def compared(options, driver):
     with open(os.path.join(ROOT, "docs", "FORMAT.md"), encoding="utf-8") as page:
         form = Format(page.read())
     asked, tally, comparison = texts.all_texts(ROOT, form, options.seed, options.texts), Tally(), Comparison(form)
-    by_text, by_tree = (answers_of_original(driver, way, asked) for way in ("text", "tree"))
-    for text, *original in zip(asked, by_text, by_tree):
-        port = answer_of_port(options.program, text)
-        tally.add(text, comparison.compare(text, port, *original), (port, *original))
+    if options.interpreted:
+        asked = with_room(asked, options.seed)
+        of_port = answers_of_interpreter(asked)
+    else:
+        of_port = (answer_of_port(options.program, it) for it in asked)
+    of_original = (answers_of_original(driver, way, asked) for way in ("text", "tree"))
+    for text, *answers in zip(asked, of_port, *of_original):
+        tally.add(text, comparison.compare(text, *answers), answers)
     return tally
 
 
 def options_of(words):
-    parser = argparse.ArgumentParser(usage=__doc__.split("\n")[2][7:])
+    parser = argparse.ArgumentParser(usage="\n".join(__doc__.split("\n")[2:4])[7:])
     parser.format_help = lambda: __doc__
     for name in ("--original", "--registry", "--work"):
         parser.add_argument(name)
+    parser.add_argument("--interpreted", action="store_true")
     parser.add_argument("--program", default=os.path.join(ROOT, "crates", "utoipa_doc", "out", "utoipa_doc"))
     parser.add_argument("--seed", type=int, default=1)
     parser.add_argument("--texts", type=int, default=40000)
     return parser.parse_args(words)
 
 
+def check_commands(options):
+    if not shutil.which("cargo"):
+        sys.exit("beside_original: the command 'cargo' has to be on the path")
+    if options.interpreted and not shutil.which("rt"):
+        sys.exit("beside_original: the Rattle toolchain's command 'rt' has to be on the path")
+    if not options.interpreted and not os.access(options.program, os.X_OK):
+        sys.exit("beside_original: no program at %s: ./build makes it" % options.program)
+
+
 def main():
     options, began = options_of(sys.argv[1:]), time.time()
     check_rows()
-    if not shutil.which("cargo"):
-        sys.exit("beside_original: the command 'cargo' has to be on the path")
-    if not os.access(options.program, os.X_OK):
-        sys.exit("beside_original: no program at %s: ./build makes it" % options.program)
+    check_commands(options)
     with tempfile.TemporaryDirectory(prefix="beside-original-") as folder:
         driver = built_driver(options, options.work or folder)
         tally = compared(options, driver)
         tally.tell()
-        tell_times(driver, options.program)
+        if not options.interpreted:
+            tell_times(driver, options.program)
     tally.tell_unexplained()
     print("\nseed %d, %d texts by chance: %d of all differ by no row; %d seconds"
           % (options.seed, options.texts, len(tally.unexplained), time.time() - began))
