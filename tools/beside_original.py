@@ -240,16 +240,22 @@ class Tally:
                 print("  %s: %s" % (name, answer.text if answer.text is not None else "refused: " + answer.refusal))
 
 
-def tell_times(driver, program):
+def tell_times(driver, options):
     """The row that only time shows."""
     print("\n        by " + rules.TIMED)
     for levels in (12, 16, 20):
         deep = b'{"type":"string","contentSchema":' * levels + b'{"type":"string"}' + b"}" * levels
-        text, began = texts.Text("deep", "schema", "", deep), time.time()
-        answers_of_original(driver, "text", [text])
-        asked = time.time()
-        answer_of_port(program, text)
-        print("        %d levels: the original %.3f seconds, the port %.3f" % (levels, asked - began, time.time() - asked))
+        text = texts.Text("deep", "schema", "", deep)
+        taken = ["the original %.3f seconds" % seconds_of(lambda: answers_of_original(driver, "text", [text]))]
+        if not options.interpreted:
+            taken.append("the port %.3f" % seconds_of(lambda: answer_of_port(options.program, text)))
+        print("        %d levels: %s" % (levels, ", ".join(taken)))
+
+
+def seconds_of(call):
+    began = time.time()
+    call()
+    return time.time() - began
 
 
 def told(text, length=150):
@@ -311,8 +317,7 @@ def main():
         driver = built_driver(options, options.work or folder)
         tally = compared(options, driver)
         tally.tell()
-        if not options.interpreted:
-            tell_times(driver, options.program)
+        tell_times(driver, options)
     tally.tell_unexplained()
     print("\nseed %d, %d texts by chance: %d of all differ by no row; %d seconds"
           % (options.seed, options.texts, len(tally.unexplained), time.time() - began))
