@@ -1,0 +1,17 @@
+pub mod Exact
+pub mod Sound
+pub mod Pieces
+pub mod Versions
+pub mod Steps
+pub mod Leaves
+pub mod ByRows
+pub mod Flows
+pub mod Joined
+pub mod References
+pub mod Fewer
+pub mod Walks
+pub mod Reports
+pub mod Pointers
+pub mod DroppedWalks
+pub mod DroppedHas
+pub mod DroppedPlaces

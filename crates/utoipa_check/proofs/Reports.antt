@@ -1,0 +1,40 @@
+-- What a report says of a tree.
+use Rattle.std.proofs.Common.{◌≡◌, ◌↔◌, List, [], ◌++◌, Bool, true, false, not, ◌&&◌, Option, Some, None, is_some, refl, sym, ap, ◌∙◌, true≢false}
+use Rattle.std.proofs.lemmas.List.{append-nil}
+use Rattle.serde_json.specs.Data.{Data}
+use Rattle.serde_json.specs.Written.{has_float}
+use Rattle.utoipa_base.specs.Docs.{Doc}
+use Rattle.utoipa_base.specs.Kinds.{Kind}
+use Rattle.utoipa_base.specs.Reading.{read}
+use Rattle.utoipa_base.specs.WellFormed.{ReadsAs}
+use Rattle.utoipa_check.specs.Misfits.{is_fit, misfits, fractions, misfits_and_fractions}
+use Rattle.utoipa_check.specs.Views.{misfits_of}
+use Rattle.utoipa_check.specs.declared.misfit.Misfit.{Misfit}
+use Rattle.utoipa_check.proofs.Exact.{fractions_exact, misfits_and_fractions_exact}
+use Rattle.utoipa_check.proofs.Steps.{misfits_of_join, no_items, none_fit}
+
+pub with_fractions : (k : Kind) (d : Data) (ms fs all : List Misfit) → misfits_of ms ≡ misfits k d → misfits_of fs ≡ fractions d → all ≡ ms ++ fs → misfits_of all ≡ misfits_and_fractions k d
+with_fractions k d ms fs all found more put = ap misfits_of put ∙ misfits_of_join ms fs ∙ ap (λ xs. xs ++ misfits_of fs) found ∙ ap (λ xs. misfits k d ++ xs) more
+
+pub without_fractions : (k : Kind) (d : Data) (ms : List Misfit) → misfits_of ms ≡ misfits k d → has_float d ≡ false → misfits_of ms ≡ misfits_and_fractions k d
+without_fractions k d ms found plain =
+    let none : fractions d ≡ [] = none_fit (fractions d) (fractions_exact d ∙ ap not plain) in
+    found ∙ sym (append-nil (misfits k d)) ∙ ap (λ xs. misfits k d ++ xs) (sym none)
+
+document_there : (o : Option Doc) (b : Bool) → is_some o && not b ≡ true → (b ≡ false) × ((doc : Doc) × (o ≡ Some doc))
+document_there None b e = absurd (true≢false (sym e))
+document_there (Some doc) true e = absurd (true≢false (sym e))
+document_there (Some doc) false e = (refl, (doc, refl))
+
+reads_from : (k : Kind) (d : Data) → is_some (read k d) && not (has_float d) ≡ true → (doc : Doc) × ReadsAs k d doc
+reads_from k d e =
+    let h = document_there (read k d) (has_float d) e in
+    (h.1.0, (h.0, h.1.1))
+
+-- no misfit is there exactly where the tree reads as a document
+pub empty_exactly : (k : Kind) (d : Data) (all : List Misfit) → misfits_of all ≡ misfits_and_fractions k d → (all ≡ []) ↔ ((doc : Doc) × ReadsAs k d doc)
+empty_exactly k d all found =
+    let exact = ap is_fit found ∙ misfits_and_fractions_exact k d in (
+      λ none. reads_from k d (sym exact ∙ ap (λ xs. is_fit (misfits_of xs)) none),
+      λ reads. no_items all (none_fit (misfits_of all) (exact ∙ ap (λ o. is_some o && not (has_float d)) reads.1.1 ∙ ap (λ b. not b) reads.1.0)),
+    )

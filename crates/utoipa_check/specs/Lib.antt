@@ -1,0 +1,12 @@
+pub mod Misfits
+pub mod Truth
+pub mod Version
+pub mod Places
+pub mod Views
+pub mod Rows
+pub mod Pointers
+pub mod Dropped
+pub mod Has
+pub mod IsDropped
+pub mod DroppedViews
+pub mod Moves

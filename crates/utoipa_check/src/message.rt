@@ -1,0 +1,81 @@
+//! What a misfit says, in words. No clause tells which words they are.
+
+use crate::misfit::{Cause, Misfit};
+use std::fmt;
+use utoipa_tables::{Kind, title};
+
+/// What is expected of a tree of a kind.
+fn expectation(kind: Kind) -> &'static str {
+    match kind {
+        Kind::Text => "a string",
+        Kind::Flag => "true or false",
+        Kind::Whole => "an integer from 0 to 18446744073709551615",
+        Kind::Numeral => "an integer from -9223372036854775808 to 18446744073709551615",
+        Kind::Any => "anything",
+        Kind::WordOf(_) => "a string",
+        Kind::Version => "a version 3.1 or 3.2",
+        Kind::ListOf(_) => "an array",
+        Kind::MapOf(_) | Kind::OrderedMapOf(_) | Kind::EntriesOf(_) => "an object",
+        Kind::RefOr(own) => expectation(*own),
+        Kind::Named(object_type) => title(object_type),
+        Kind::Schema => "a Schema Object",
+        Kind::SchemaType => "a type, an array of types or null",
+        Kind::SchemaFormat => "a string",
+        Kind::ArrayItems => "a Schema Object or false",
+        Kind::AdditionalProperties => "a Schema Object, true or false",
+        Kind::SecurityScheme => "a Security Scheme Object",
+        Kind::ApiKey => "a Security Scheme Object of `apiKey`",
+        Kind::Flows => "an OAuth Flows Object",
+    }
+}
+
+/// Writes words, each in quotation marks, with a comma between them.
+fn write_words<W: fmt::Write>(f: &mut fmt::Formatter<W>, words: &[&str]) -> fmt::Result {
+    let mut before = "";
+    for word in words {
+        write!(f, "{before}`{word}`")?;
+        before = ", ";
+    }
+    Ok(())
+}
+
+/// Writes what is expected of trees of some kinds, with `or` between them.
+fn write_kinds<W: fmt::Write>(f: &mut fmt::Formatter<W>, kinds: &[Kind]) -> fmt::Result {
+    let mut before = "";
+    for kind in kinds {
+        let expected = expectation(*kind);
+        write!(f, "{before}{expected}")?;
+        before = " or ";
+    }
+    Ok(())
+}
+
+impl fmt::Display for Cause {
+    fn fmt<W: fmt::Write>(&self, f: &mut fmt::Formatter<W>) -> fmt::Result {
+        match self {
+            Cause::Absent(name) => write!(f, "the member `{name}` is required"),
+            Cause::Expected(kind) => {
+                let expected = expectation(*kind);
+                write!(f, "{expected} is expected")
+            }
+            Cause::UnknownWord(words) => {
+                write!(f, "one of these words is expected: ")?;
+                write_words(f, words)
+            }
+            Cause::NoAlternative(kinds) => {
+                write!(f, "this is not ")?;
+                write_kinds(f, kinds)
+            }
+            Cause::Fraction => write!(f, "the number is not an integer of 64 bits"),
+        }
+    }
+}
+
+/// The JSON Pointer of the place, and the cause.
+impl fmt::Display for Misfit<'_> {
+    fn fmt<W: fmt::Write>(&self, f: &mut fmt::Formatter<W>) -> fmt::Result {
+        let pointer = &self.pointer;
+        let cause = self.cause;
+        write!(f, "{pointer}: {cause}")
+    }
+}

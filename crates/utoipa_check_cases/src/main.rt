@@ -1,0 +1,75 @@
+//! Answers each line of standard input: a call, a tab, and what the call is given.
+//!
+//! A line without a tab is printed as it is: one that begins with `#` says what the next ones show. The calls:
+//!
+//! | Call | Given | Answer |
+//! |---|---|---|
+//! | `misfits TYPE` | a JSON text | the places that do not fit the type, each with the cause, ` ; ` between two; `none` where all fits |
+//! | `places TYPE` | a JSON text | the places alone |
+//! | `visits TYPE` | a JSON text | how many places were looked at |
+#![tactic(auto)]
+
+mod kinds;
+
+use crate::kinds::kind_named;
+use serde_json::Value;
+use std::alloc::{AllocError, Global};
+use std::io;
+use utoipa_case_kit::Call;
+use utoipa_check::{Misfit, Report, misfits};
+
+fn main(rt: HostRuntime) -> io::Result<()> {
+    for line in rt.lines(rt.alloc()) {
+        let line = line?;
+        let answer = answer_of(rt.alloc(), line.as_str())?;
+        println!(rt; "{answer}")?;
+    }
+    Ok(())
+}
+
+// The answer to a line.
+fn answer_of(alloc: Global, line: &str) -> Result<String, AllocError> {
+    let Some(call) = Call::of_line(line) else {
+        return String::from_str(alloc, line);
+    };
+    let Some(kind) = kind_named(call.subject()) else {
+        return String::from_str(alloc, "no such type");
+    };
+    let Ok(tree) = Value::from_str(alloc, call.given) else {
+        return String::from_str(alloc, "no JSON");
+    };
+    let report = misfits(alloc, kind, &tree)?;
+    match call.name {
+        "misfits" => told(alloc, &report, true),
+        "places" => told(alloc, &report, false),
+        "visits" => {
+            let visits = report.visits;
+            format!(in alloc; "{visits}")
+        }
+        _ => String::from_str(alloc, "no such call"),
+    }
+}
+
+// The places of a report, with the causes or without them.
+fn told(alloc: Global, report: &Report<'_>, with_causes: bool) -> Result<String, AllocError> {
+    if report.misfits.is_empty() {
+        return String::from_str(alloc, "none");
+    }
+    let mut text = String::new(alloc);
+    for misfit in &report.misfits {
+        if !text.is_empty() {
+            text.push_str(" ; ")?;
+        }
+        let one = told_of_one(alloc, misfit, with_causes)?;
+        text.push_str(one.as_str())?;
+    }
+    Ok(text)
+}
+
+fn told_of_one(alloc: Global, misfit: &Misfit<'_>, with_cause: bool) -> Result<String, AllocError> {
+    if with_cause {
+        return format!(in alloc; "{misfit}");
+    }
+    let pointer = &misfit.pointer;
+    format!(in alloc; "{pointer}")
+}
