@@ -1,10 +1,9 @@
 -- What each kind reads a tree as, and how it is written.
-use Rattle.std.proofs.Common.{◌≡◌, ℕ, List, [], ◌∷◌, ◌++◌, Bool, Option, Some, None, option_map, option_and_then, map, refl, sym, ap, ◌∙◌, Vec, Global, suc, ◌+◌, ◌<◌, length, get_or, drop, drop-cons, add-one}
+use Rattle.std.proofs.Common.{◌≡◌, ℕ, List, [], ◌∷◌, ◌++◌, Bool, Option, Some, None, option_map, option_and_then, map, refl, sym, ap, ◌∙◌, suc, ◌+◌, ◌<◌, length, get_or, drop, drop-cons, add-one}
 use Rattle.serde_json.specs.Data.{unsigned, Data, null, boolean, number, string, array, object, Items, item}
 use Rattle.serde_json.specs.Find.{as_str, as_bool, as_number, as_array, as_u64}
 use Rattle.serde_json.specs.View.{view, items_of, items_view}
-use Rattle.serde_json.specs.declared.value.Value.{Value, Array, Object, the_lemmas}
-use Rattle.serde_json.proofs.Views.{view-Array}
+use Rattle.serde_json.specs.declared.value.Value.{Value, the_lemmas}
 use Rattle.utoipa_base.specs.Kinds.{Kind, text, flag, whole, any, list_of}
 use Rattle.utoipa_base.specs.Docs.{Doc, text_doc, flag_doc, whole_doc, tree_doc, list_doc, Docs, no_docs, docs_of}
 use Rattle.utoipa_base.specs.Reading.{reader, item_readers, read, read_items, both}
@@ -131,11 +130,6 @@ unfolding write
 write-list ds = refl
 
 pub ruleset by_lists = (read-list, write-list, the_lemmas)
-
--- a list that was written item by item
-pub write-list-of_items : {A : Type 0} (f : A → Doc) (xs : List A) (vs : Vec Value Global) → map view vs.items ≡ map (λ x. write (f x)) xs
-    → view (Array vs) ≡ write (list_doc (docs_of (map f xs)))
-write-list-of_items f xs vs e = view-Array vs ∙ ap (λ ds. array (items_of ds)) e ∙ ap array (sym (write_items-docs_of f xs)) ∙ sym (write-list (docs_of (map f xs)))
 
 pub drop_item : {A : Type 0} (xs : List A) (i : ℕ) (x : A) → i < length xs → x ≡ get_or xs i x → drop i xs ≡ x ∷ drop (i + 1) xs
 drop_item xs i x within is = rw add-one (drop-cons xs i x within ∙ ap (λ y. y ∷ drop (suc i) xs) (sym is))

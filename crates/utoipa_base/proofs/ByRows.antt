@@ -1,12 +1,9 @@
 -- A table's rows, read and written.
-use Rattle.std.proofs.Common.{◌≡◌, ℕ, List, [], ◌∷◌, Bool, true, false, Option, Some, None, option_map, refl, sym, ap, ◌∙◌, nat_cmp, is_some, String, Global, BTreeMap, Result, Ok, Err, IfErr, subst, Ordering, Less, Equal, Greater}
+use Rattle.std.proofs.Common.{◌≡◌, ℕ, List, [], ◌∷◌, Bool, true, false, Option, Some, None, option_map, refl, sym, ap, ◌∙◌, nat_cmp, is_some, Result, Ok, Err, IfErr, subst, Ordering, Less, Equal, Greater}
 use Rattle.std.specs.Ordering.{match_ordering}
 use Rattle.std.specs.Cmp.Lexicographic.{slice_cmp}
 use Rattle.serde_json.specs.Data.{Data, null, boolean, number, string, array, object, Members, no_members, member, put}
 use Rattle.serde_json.specs.Find.{get, get_member, as_object, as_null}
-use Rattle.serde_json.specs.View.{view, members_view}
-use Rattle.serde_json.specs.declared.value.Value.{Value, Object, the_lemmas}
-use Rattle.serde_json.proofs.Views.{view-Object}
 use Rattle.std.specs.Result.{IsErrAnd}
 use Rattle.utoipa_base.specs.declared.fault.ReadFault.{ReadFault}
 use Rattle.utoipa_base.specs.declared.fault.ReadFault.TheVariants.{Memory, Fraction, Missing, Kind as no_kind, Word, Alternative, Text}
@@ -14,9 +11,9 @@ use Rattle.utoipa_base.specs.Faults.{Refuses}
 use Rattle.utoipa_base.specs.Kinds.{ObjectType, Kind, named, Mark, required, optional, or_null, defaulted, Row}
 use Rattle.utoipa_base.specs.Docs.{Doc, none_doc, some_doc, table_doc, Docs, no_docs, doc}
 use Rattle.utoipa_base.specs.Tables.{table, has_extensions, row}
-use Rattle.utoipa_base.specs.Extensions.{extensions_of, extensions_at, members_or_none}
+use Rattle.utoipa_base.specs.Extensions.{extensions_of, extensions_at}
 use Rattle.utoipa_base.specs.Reading.{reader, parts, part, part_of, fits, read, read_rows, both, is_null}
-use Rattle.utoipa_base.specs.Writing.{write, write_rows, is_empty, put_unless}
+use Rattle.utoipa_base.specs.Writing.{write, is_empty, put_unless}
 use Rattle.utoipa_base.specs.Fields.{field, field_of, present, fields, put_field}
 
 pub field-row : (name : List ℕ) (m : Mark) (k : Kind) (d : Data) → field (row name m k) d ≡ field_of m k (get name d)
@@ -147,20 +144,6 @@ table_refused_if false n d is all = read-no_object n d is
 pub table_refused : (n : ObjectType) (d : Data) → fields (table n) d ≡ None → read (named n) d ≡ None
 table_refused n d all = table_refused_if _ n d refl all
 
-pub write-table : (n : ObjectType) (ds : Docs) (e : Option Members) → write (table_doc n ds e) ≡ object (write_rows ds (table n) (members_or_none e))
-unfolding write
-write-table n ds e = refl
-
-pub write_rows-nil : (rs : List Row) (ms : Members) → write_rows no_docs rs ms ≡ ms
-unfolding write_rows
-write_rows-nil rs ms = refl
-
-pub write_rows-cons : (d : Doc) (ds : Docs) (r : Row) (rs : List Row) (ms : Members) → write_rows (doc d ds) (r ∷ rs) ms ≡ write_rows ds rs (put_field r d ms)
-unfolding write_rows put_field
-write_rows-cons d ds r rs ms = refl
-
-pub ruleset by_writing = (write-table, write_rows-nil, write_rows-cons, the_lemmas)
-
 pub no_extensions : (d : Data) → None ≡ extensions_at false d
 no_extensions null = refl
 no_extensions (boolean b) = refl
@@ -185,14 +168,3 @@ refuses_too o p h Text r = r
 pub passes_on : {T : Type 0} (r : Result T ReadFault) (e : ReadFault) (o p : Option Doc) → IsErrAnd r (λ f. f ≡ e) → Refuses o e → (o ≡ None → p ≡ None) → IfErr r (λ f. Refuses p f)
 passes_on (Ok v) e o p is refused h = tt
 passes_on (Err f) e o p is refused h = refuses_too o p h f (let Q : ReadFault → Type 0 = λ x. Refuses o x in subst Q (sym is) refused)
-
-pub rows-nil : (ms : Members) → write_rows no_docs [] ms ≡ ms
-unfolding write_rows
-rows-nil ms = refl
-
-pub rows-cons : (d : Doc) (ds : Docs) (r : Row) (rs : List Row) (start next ms : Members) → next ≡ put_field r d start → write_rows ds rs next ≡ ms → write_rows (doc d ds) (r ∷ rs) start ≡ ms
-rows-cons d ds r rs start next ms is later = write_rows-cons d ds r rs start ∙ ap (write_rows ds rs) (sym is) ∙ later
-
-pub table_written : (n : ObjectType) (ds : Docs) (e : Option Members) (m : BTreeMap (String Global) Value) (start : Members) → start ≡ members_or_none e → write_rows ds (table n) start ≡ members_view m.entries
-    → view (Object m) ≡ write (table_doc n ds e)
-table_written n ds e m start is all = view-Object m ∙ ap object (sym all ∙ ap (write_rows ds (table n)) is) ∙ sym (write-table n ds e)

@@ -1,22 +1,17 @@
 -- Objects whose members are entries of a map, beside their extensions: what a loop over them has read, written or printed so far.
-use Rattle.std.proofs.Common.{◌≡◌, ℕ, ◌+◌, ◌<◌, ◌≤◌, List, [], ◌∷◌, ◌++◌, Bool, true, false, cond, Option, Some, None, option_map, option_and_then, refl, sym, ap, ◌∙◌, subst, append_assoc, append-nil, arith, Result, Ok, Err, OnOk, IsErrAnd, String, Global, BTreeMap, string_bytes, string_cmp, Less}
+use Rattle.std.proofs.Common.{◌≡◌, ℕ, ◌+◌, ◌<◌, ◌≤◌, List, [], ◌∷◌, ◌++◌, Bool, true, false, cond, Option, Some, None, option_map, option_and_then, refl, sym, ap, ◌∙◌, subst, append_assoc, append-nil, arith, Result, Ok, Err, IsErrAnd, String, Global, BTreeMap, string_bytes, string_cmp, Less}
 use Rattle.std.proofs.lemmas.List.{map-append}
 use Rattle.std.specs.BTreeMap.{insert_entry}
 use Rattle.std.specs.List.{AllByRecursion}
 use Rattle.std.specs.List.Sorted.{IsStrictlySortedBy}
 use Rattle.std.specs.Map.{keys_of}
-use Rattle.json.specs.Token.{begin_object}
-use Rattle.json.specs.Written.{Written}
-use Rattle.serde_json.specs.Data.{Data, null, boolean, number, string, array, object, Members, no_members, member, put}
+use Rattle.serde_json.specs.Data.{Data, null, boolean, number, string, array, object, Members, member, put}
 use Rattle.serde_json.specs.Find.{as_object}
 use Rattle.serde_json.specs.View.{view, members_view}
-use Rattle.serde_json.specs.declared.value.Value.{Value, Object}
-use Rattle.serde_json.proofs.Views.{Entry, view-Object}
+use Rattle.serde_json.proofs.Views.{Entry}
 use Rattle.utoipa_base.specs.Docs.{Doc, entries_doc, Entries, no_entries, entries_of_list}
 use Rattle.utoipa_base.specs.Extensions.{is_extension, extensions_of, extensions_at, extensions_view, members_or_none}
-use Rattle.utoipa_base.specs.InOrder.{joined, PrintsAmong, BeginsMember, EndsObject}
 use Rattle.utoipa_base.specs.Kinds.{Kind, entries_of}
-use Rattle.utoipa_base.specs.Printed.{Adds, Prints}
 use Rattle.utoipa_base.specs.Reading.{reader, parts, read, read_entries, both_entries, entry_parts}
 use Rattle.utoipa_base.specs.Reads.{Reads}
 use Rattle.utoipa_base.specs.Values.{values, members_values, schema_count, entries_schema_count}
@@ -25,11 +20,9 @@ use Rattle.utoipa_base.specs.Writing.{write, write_entries, merge_members}
 use Rattle.utoipa_base.specs.declared.extensions.Extensions.{Extensions}
 use Rattle.utoipa_base.specs.declared.fault.ReadFault.{ReadFault}
 use Rattle.utoipa_base.proofs.ByRows.{passes_on}
-use Rattle.utoipa_base.proofs.FieldsInOrder.{put_merged, none_among, one_among, both_among, object_among}
-use Rattle.utoipa_base.proofs.Maps.{texts, insert_last, members_by, put_last, write_entries-entries_of_list, prepend_entries, prepend_entries-none, prepend_entries-some, prepend_entries-append}
+use Rattle.utoipa_base.proofs.Maps.{texts, insert_last, members_by, write_entries-entries_of_list, prepend_entries, prepend_entries-none, prepend_entries-some, prepend_entries-append}
 use Rattle.utoipa_base.proofs.Places.{counted_more, entries_schema_count-none}
 use Rattle.utoipa_base.proofs.ReadingMaps.{values_left}
-use Rattle.utoipa_base.proofs.Tokens.{members_by-last}
 use Rattle.utoipa_base.proofs.Values.{object_values, entries_schema_count-last}
 
 -- ---- the definitions
@@ -231,70 +224,12 @@ entries_read k f all left m o start now d so_far none is extends =
 
 -- ---- writing
 
--- the entries before `left` have been put over the extensions, which comes to `ms`
-pub record EntriesOver {T : Type 0} (f : T → Doc) (all left : List (String Global × T)) (extensions ms : Members) : Type 0 where
-  pub done : List (String Global × T)
-  pub split : all ≡ done ++ left
-  pub members : ms ≡ merge_members (members_by (λ x. write (f x)) done) extensions
-
-pub over_begun : {T : Type 0} (f : T → Doc) (all left : List (String Global × T)) (ms : Members) → left ≡ all → EntriesOver f all left ms ms
-over_begun f all left ms whole = record { done = []; split = sym whole; members = refl }
-
-pub over_step : {T : Type 0} (f : T → Doc) (all left : List (String Global × T)) (extensions ms ns : Members) (e : String Global × T) (more : List (String Global × T)) (v : Data) → EntriesOver f all left extensions ms → left ≡ e ∷ more
-    → IsStrictlySortedBy string_cmp (keys_of all) → v ≡ write (f e.1) → ns ≡ put (string_bytes e.0) v ms → EntriesOver f all more extensions ns
-over_step f all left extensions ms ns e more v so_far rest ordered written is =
-    let whole : all ≡ so_far.done ++ e ∷ more = so_far.split ∙ ap (λ r. so_far.done ++ r) rest in
-    let sorted = subst (λ es. IsStrictlySortedBy string_cmp (keys_of es)) whole ordered in
-    record {
-      done = so_far.done ++ e ∷ [];
-      split = whole ∙ sym (append_assoc so_far.done (e ∷ []) more);
-      members = is ∙ ap (λ w. put (string_bytes e.0) w ms) written ∙ ap (put (string_bytes e.0) (write (f e.1))) so_far.members
-          ∙ put_merged (string_bytes e.0) (write (f e.1)) (members_by (λ x. write (f x)) so_far.done) extensions
-          ∙ ap (λ r. merge_members r extensions) (put_last (λ x. write (f x)) so_far.done e more sorted);
-    }
-
 -- all entries, over the extensions
-entries_tree : {T : Type 0} (f : T → Doc) (m : BTreeMap (String Global) T) (o : Option Extensions) → object (merge_members (members_by (λ x. write (f x)) m.entries) (members_or_none (option_map extensions_view o))) ≡ write (entries_beside f m o)
+pub entries_tree : {T : Type 0} (f : T → Doc) (m : BTreeMap (String Global) T) (o : Option Extensions) → object (merge_members (members_by (λ x. write (f x)) m.entries) (members_or_none (option_map extensions_view o))) ≡ write (entries_beside f m o)
 entries_tree f m o =
     ap (λ r. object (merge_members r (members_or_none (option_map extensions_view o)))) (sym (write_entries-entries_of_list f m.entries))
     ∙ sym (write-entries (entries_of_list (pairs_of f m.entries)) (option_map extensions_view o))
 
-pub over_all : {T : Type 0} (f : T → Doc) (m : BTreeMap (String Global) T) (o : Option Extensions) (left : List (String Global × T)) (extensions : Members) (n : BTreeMap (String Global) Value) → EntriesOver f m.entries left extensions (members_view n.entries)
-    → left ≡ [] → extensions ≡ members_or_none (option_map extensions_view o) → view (Object n) ≡ write (entries_beside f m o)
-over_all f m o left extensions n so_far none are =
-    let whole : so_far.done ≡ m.entries = sym (so_far.split ∙ ap (λ r. so_far.done ++ r) none ∙ append-nil so_far.done) in
-    view-Object n ∙ ap object (so_far.members ∙ ap (λ es. merge_members (members_by (λ x. write (f x)) es) extensions) whole ∙ ap (merge_members (members_by (λ x. write (f x)) m.entries)) are) ∙ entries_tree f m o
-
 -- ---- printing
-
--- the entries before `left` have been printed among the extensions, of which `pending` are left
-pub record EntriesAmong {T : Type 0} (f : T → Doc) (all left : List (String Global × T)) (extensions pending : Members) (old new : Written) : Type 0 where
-  pub done : List (String Global × T)
-  pub split : all ≡ done ++ left
-  pub prints : PrintsAmong (members_by (λ x. write (f x)) done) extensions pending old new
-
-pub among_begun : {T : Type 0} (f : T → Doc) (all left : List (String Global × T)) (extensions : Members) (w : Written) → left ≡ all → EntriesAmong f all left extensions extensions w w
-among_begun f all left extensions w whole = record { done = []; split = sym whole; prints = none_among extensions w }
-
-pub among_step : {T : Type 0} (f : T → Doc) (all left : List (String Global × T)) (extensions pending after : Members) (e : String Global × T) (more : List (String Global × T)) (name : List ℕ) (old mid named new : Written)
-    → EntriesAmong f all left extensions pending old mid → left ≡ e ∷ more → name ≡ string_bytes e.0 → BeginsMember name pending after mid named → Prints (write (f e.1)) named new → EntriesAmong f all more extensions after old new
-among_step f all left extensions pending after e more name old mid named new so_far rest same begins prints =
-    let one = one_among name (write (f e.1)) pending after mid named new begins prints in
-    let is : joined (members_by (λ x. write (f x)) so_far.done) (member name (write (f e.1)) no_members) ≡ members_by (λ x. write (f x)) (so_far.done ++ e ∷ []) =
-    ap (λ n. joined (members_by (λ x. write (f x)) so_far.done) (member n (write (f e.1)) no_members)) same ∙ members_by-last (λ x. write (f x)) so_far.done e in
-    record {
-      done = so_far.done ++ e ∷ [];
-      split = so_far.split ∙ ap (λ r. so_far.done ++ r) rest ∙ sym (append_assoc so_far.done (e ∷ []) more);
-      prints = subst (λ ms. PrintsAmong ms extensions after old new) is (both_among (members_by (λ x. write (f x)) so_far.done) (member name (write (f e.1)) no_members) extensions pending after old mid new so_far.prints one);
-    }
-
-pub among_all : {T E : Type 0} (r : Result (Unit {0}) E) (f : T → Doc) (m : BTreeMap (String Global) T) (o : Option Extensions) (left : List (String Global × T)) (extensions pending : Members) (old opened mid new : Written)
-    → EntriesAmong f m.entries left extensions pending opened mid → left ≡ [] → extensions ≡ members_or_none (option_map extensions_view o) → Adds false (begin_object ∷ []) old opened → OnOk r (EndsObject pending mid new)
-    → OnOk r (Prints (write (entries_beside f m o)) old new)
-among_all r f m o left extensions pending old opened mid new so_far none are begins ends =
-    let whole : so_far.done ≡ m.entries = sym (so_far.split ∙ ap (λ x. so_far.done ++ x) none ∙ append-nil so_far.done) in
-    let tree : object (merge_members (members_by (λ x. write (f x)) so_far.done) extensions) ≡ write (entries_beside f m o) =
-    ap (λ es. object (merge_members (members_by (λ x. write (f x)) es) extensions)) whole ∙ ap (λ x. object (merge_members (members_by (λ y. write (f y)) m.entries) x)) are ∙ entries_tree f m o in
-    subst (λ d. OnOk r (Prints d old new)) tree (object_among r (members_by (λ x. write (f x)) so_far.done) extensions pending old opened mid new begins so_far.prints ends)
 
 pub ruleset by_entries = (read-entries, schema_count-entries)

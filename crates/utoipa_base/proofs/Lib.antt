@@ -38,3 +38,9 @@ pub mod Tokens
 pub mod AbsentMembers
 pub mod PartsRead
 pub mod TakenBack
+pub mod SentTokens
+pub mod Sending
+pub mod Built
+pub mod Building
+pub mod SendingAmong
+pub mod NameHashes

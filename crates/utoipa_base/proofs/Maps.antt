@@ -1,5 +1,5 @@
 -- A map's entries beside the members that they are read from and written as.
-use Rattle.std.proofs.Common.{◌≡◌, ℕ, List, [], ◌∷◌, ◌++◌, Option, Some, None, option_map, option_and_then, map, refl, sym, ap, ◌∙◌, String, BTreeMap, Global, Less, Greater, string_bytes, string_cmp, nat_cmp}
+use Rattle.std.proofs.Common.{◌≡◌, ℕ, List, [], ◌∷◌, ◌++◌, Option, Some, None, option_map, option_and_then, map, refl, sym, ap, ◌∙◌, String, Global, Less, Greater, string_bytes, string_cmp, nat_cmp}
 use Rattle.std.proofs.lemmas.Cmp.{nat_list_cmp_total}
 use Rattle.std.specs.Ordering.{ordering_reverse}
 use Rattle.std.specs.Cmp.Lexicographic.{slice_cmp}
@@ -10,8 +10,7 @@ use Rattle.std.specs.BTreeMap.{insert_entry}
 use Rattle.serde_json.specs.Data.{Data, null, boolean, number, string, array, object, Members, no_members, member, put}
 use Rattle.serde_json.specs.Find.{as_object}
 use Rattle.serde_json.specs.View.{view, members_view}
-use Rattle.serde_json.specs.declared.value.Value.{Value, Object}
-use Rattle.serde_json.proofs.Views.{Entry, view-Object}
+use Rattle.serde_json.proofs.Views.{Entry}
 use Rattle.utoipa_base.specs.Kinds.{Kind, map_of}
 use Rattle.utoipa_base.specs.Docs.{Doc, map_doc, Entries, no_entries, entries_of_list}
 use Rattle.utoipa_base.specs.Views.{pairs_of}
@@ -104,20 +103,9 @@ abbrev pub members_by : {X : Type 0} → (X → Data) → List (String Global ×
 members_by f [] = no_members
 members_by f (e ∷ es) = member (string_bytes e.0) (f e.1) (members_by f es)
 
-pub put_last : {X : Type 0} (f : X → Data) (done : List (String Global × X)) (e : String Global × X) (more : List (String Global × X)) → IsStrictlySortedBy string_cmp (keys_of (done ++ e ∷ more))
-    → put (string_bytes e.0) (f e.1) (members_by f done) ≡ members_by f (done ++ e ∷ [])
-unfolding IsStrictlySortedBy
-put_last f [] e more h = refl
-put_last f (x ∷ done) e more h = rw (above x done e more h.0) (ap (member (string_bytes x.0) (f x.1)) (put_last f done e more h.1))
-
 pub write_entries-entries_of_list : {X : Type 0} (f : X → Doc) (es : List (String Global × X)) → write_entries (entries_of_list (pairs_of f es)) ≡ members_by (λ x. write (f x)) es
 unfolding write_entries
 write_entries-entries_of_list f [] = refl
 write_entries-entries_of_list f (e ∷ es) = ap (member (string_bytes e.0) (write (f e.1))) (write_entries-entries_of_list f es)
-
--- a map that was written entry by entry
-pub write-map_of_entries : {X : Type 0} (f : X → Doc) (es : List (String Global × X)) (m : BTreeMap (String Global) Value) → members_view m.entries ≡ members_by (λ x. write (f x)) es
-    → view (Object m) ≡ write (map_doc (entries_of_list (pairs_of f es)))
-write-map_of_entries f es m e = view-Object m ∙ ap object (e ∙ sym (write_entries-entries_of_list f es)) ∙ sym (write-map (entries_of_list (pairs_of f es)))
 
 pub ruleset by_maps = (read-map, write-map)

@@ -1,5 +1,5 @@
 -- A map that keeps its order beside the members that it is read from and written as.
-use Rattle.std.proofs.Common.{◌≡◌, ℕ, List, [], ◌∷◌, ◌++◌, false, cond, Option, Some, None, option_map, option_and_then, refl, sym, ap, ◌∙◌, subst, append_assoc, append-nil, arith, Result, Ok, Err, IsErrAnd, String, Global, BTreeMap, string_bytes, string_cmp, string_eq, nat_cmp, Ordering, Less, Equal, Greater, is_eq}
+use Rattle.std.proofs.Common.{◌≡◌, ℕ, List, [], ◌∷◌, ◌++◌, false, cond, Option, Some, None, option_map, option_and_then, refl, sym, ap, ◌∙◌, subst, append_assoc, append-nil, arith, Result, Ok, Err, IsErrAnd, String, Global, string_bytes, string_cmp, string_eq, nat_cmp, Ordering, Less, Equal, Greater, is_eq}
 use Rattle.std.proofs.lemmas.List.{map-append}
 use Rattle.std.proofs.lemmas.Map.Text.{is_eq-slice_cmp}
 use Rattle.std.specs.BTreeMap as tree
@@ -14,15 +14,9 @@ use Rattle.std.specs.String.{string_eq_equiv}
 use Rattle.indexmap.specs.IndexMap.{IndexMap, insert_entry}
 use Rattle.serde_json.specs.Data.{Data, null, boolean, number, string, array, object, Members, no_members, member, put}
 use Rattle.serde_json.specs.Find.{as_object}
-use Rattle.json.specs.Token.{key}
-use Rattle.json.specs.Written.{Written}
 use Rattle.serde_json.specs.View.{view, members_view}
-use Rattle.serde_json.specs.Written.{members_have_float}
 use Rattle.utoipa_base.specs.InOrder.{joined}
-use Rattle.utoipa_base.specs.Printed.{members_tokens, Adds, Prints, PrintsMembers}
-use Rattle.utoipa_base.proofs.Tokens.{nothing_added, added_as, joined_added, member_added}
-use Rattle.serde_json.specs.declared.value.Value.{Value, Object}
-use Rattle.serde_json.proofs.Views.{Entry, view-Object}
+use Rattle.serde_json.proofs.Views.{Entry}
 use Rattle.utoipa_base.specs.ByName.{by_name}
 use Rattle.utoipa_base.specs.Docs.{Doc, map_doc, ordered_map_doc, Entries, entries_of_list}
 use Rattle.utoipa_base.specs.Faults.{Refuses}
@@ -224,12 +218,6 @@ put_all f all left ms so_far none =
     let whole : so_far.done ≡ all = sym (so_far.split ∙ ap (λ r. so_far.done ++ r) none ∙ append-nil so_far.done) in
     so_far.members ∙ ap (λ es. put_written (entries_of_list (pairs_of f es)) no_members) whole
 
--- a map that was written entry by entry
-pub ordered_map_written : {T : Type 0} (f : T → Doc) (all left : List (String Global × T)) (m : BTreeMap (String Global) Value) → EntriesPut f all left (members_view m.entries) → left ≡ []
-    → view (Object m) ≡ write (ordered_map_doc (entries_of_list (pairs_of f all)))
-ordered_map_written f all left m so_far none =
-    view-Object m ∙ ap object (put_all f all left (members_view m.entries) so_far none) ∙ sym (write-ordered_map (entries_of_list (pairs_of f all)))
-
 -- ---- sorting
 
 -- a borrowed entry that is inserted shows its member put among the others, by its place
@@ -250,36 +238,9 @@ shown-insert f cmp same (e ∷ es) k v =
 
 -- ---- printing
 
--- the borrowed entries before `left` have been printed
-pub record ShownPrinted {X : Type 0} (f : X → Doc) (all left : List (Bor (List ℕ) × Bor X)) (old new : Written) : Type 0 where
-  pub done : List (Bor (List ℕ) × Bor X)
-  pub split : all ≡ done ++ left
-  pub added : PrintsMembers (shown_members f done) old new
-
-pub shown_begun : {X : Type 0} (f : X → Doc) (all left : List (Bor (List ℕ) × Bor X)) (w : Written) → left ≡ all → ShownPrinted f all left w w
-shown_begun f all left w whole = record { done = []; split = sym whole; added = nothing_added w }
-
-shown-last : {X : Type 0} (f : X → Doc) (es : List (Bor (List ℕ) × Bor X)) (e : Bor (List ℕ) × Bor X) → joined (shown_members f es) (member e.0.now (write (f e.1.now)) no_members) ≡ shown_members f (es ++ e ∷ [])
+pub shown-last : {X : Type 0} (f : X → Doc) (es : List (Bor (List ℕ) × Bor X)) (e : Bor (List ℕ) × Bor X) → joined (shown_members f es) (member e.0.now (write (f e.1.now)) no_members) ≡ shown_members f (es ++ e ∷ [])
 shown-last f [] e = refl
 shown-last f (x ∷ es) e = ap (member x.0.now (write (f x.1.now))) (shown-last f es e)
-
-pub shown_step : {X : Type 0} (f : X → Doc) (all left : List (Bor (List ℕ) × Bor X)) (e : Bor (List ℕ) × Bor X) (more : List (Bor (List ℕ) × Bor X)) (old mid named new : Written) → ShownPrinted f all left old mid → left ≡ e ∷ more
-    → Adds false (key e.0.now ∷ []) mid named → Prints (write (f e.1.now)) named new → ShownPrinted f all more old new
-shown_step f all left e more old mid named new so_far rest names prints =
-    let is : joined (shown_members f so_far.done) (member e.0.now (write (f e.1.now)) no_members) ≡ shown_members f (so_far.done ++ e ∷ []) = shown-last f so_far.done e in
-    record {
-      done = so_far.done ++ e ∷ [];
-      split = so_far.split ∙ ap (λ r. so_far.done ++ r) rest ∙ sym (append_assoc so_far.done (e ∷ []) more);
-      added = added_as _ _ _ _ old new (ap members_have_float is) (ap members_tokens is)
-          (joined_added (shown_members f so_far.done) (member e.0.now (write (f e.1.now)) no_members) old mid new so_far.added (member_added e.0.now (write (f e.1.now)) mid named new names prints));
-    }
-
--- all entries
-pub shown_printed : {X : Type 0} (f : X → Doc) (all left : List (Bor (List ℕ) × Bor X)) (ms : Members) (old new : Written) → ShownPrinted f all left old new → left ≡ [] → shown_members f all ≡ ms → PrintsMembers ms old new
-shown_printed f all left ms old new so_far none shows =
-    let whole : so_far.done ≡ all = sym (so_far.split ∙ ap (λ r. so_far.done ++ r) none ∙ append-nil so_far.done) in
-    let is : shown_members f so_far.done ≡ ms = ap (shown_members f) whole ∙ shows in
-    added_as _ _ _ _ old new (ap members_have_float is) (ap members_tokens is) so_far.added
 
 -- ---- copying
 

@@ -1,14 +1,11 @@
 -- An object is read by the list of its table's rows.
-use Rattle.std.proofs.Common.{Bor, length, get_or, take, drop, Bool, false, ◌-◌, ◌≡◌, ℕ, ◌+◌, ◌<◌, ◌≤◌, List, [], ◌∷◌, Option, Some, None, option_map, refl, sym, ap, ◌∙◌, subst, Result, Ok, Err, IfOk, is_some, true, arith, BTreeMap, String, Global}
+use Rattle.std.proofs.Common.{Bor, length, get_or, take, drop, Bool, false, ◌-◌, ◌≡◌, ℕ, ◌+◌, ◌<◌, ◌≤◌, List, [], ◌∷◌, Option, Some, None, option_map, refl, sym, ap, ◌∙◌, subst, Result, Ok, Err, is_some, true, arith}
 use Rattle.serde_json.specs.Data.{Data, Members}
 use Rattle.serde_json.specs.Find.{as_object}
 use Rattle.utoipa_base.specs.Kinds.{ObjectType, named, Row}
 use Rattle.utoipa_base.specs.Docs.{Doc, Docs, no_docs, doc, list_doc, table_doc}
-use Rattle.utoipa_base.specs.Extensions.{extensions_at, members_or_none}
-use Rattle.utoipa_base.specs.Fields.{field, fields, put_field}
-use Rattle.utoipa_base.specs.Writing.{write, write_rows}
-use Rattle.serde_json.specs.View.{view, members_view}
-use Rattle.serde_json.specs.declared.value.Value.{Value, Object}
+use Rattle.utoipa_base.specs.Extensions.{extensions_at}
+use Rattle.utoipa_base.specs.Fields.{field, fields}
 use Rattle.utoipa_base.specs.Reading.{read}
 use Rattle.utoipa_base.specs.Tables.{table, has_extensions}
 use Rattle.utoipa_base.specs.Values.{values, names_values, schema_count}
@@ -16,7 +13,7 @@ use Rattle.std.proofs.Math.Seq.{take-length}
 use Rattle.std.specs.Result.{IsErrAnd}
 use Rattle.utoipa_base.specs.declared.fault.ReadFault.{ReadFault}
 use Rattle.utoipa_base.proofs.Places.{schema_count-table, schema_count-list, docs_schema_count-none, docs_schema_count-cons}
-use Rattle.utoipa_base.proofs.ByRows.{passes_on, fields-fit, fields-first, fields-later, fields-nil, table_refused, table_fits, no_extensions, write_rows-cons, table_written}
+use Rattle.utoipa_base.proofs.ByRows.{passes_on, fields-fit, fields-first, fields-later, fields-nil, table_refused, table_fits, no_extensions}
 use Rattle.utoipa_base.proofs.TableParts.{fields_of_part, no_fields_of_part}
 use Rattle.utoipa_base.proofs.Values.{table_values, names_of}
 use Rattle.utoipa_base.specs.Reads.{Reads}
@@ -138,16 +135,3 @@ table_alone {A} docs n rs d (Err x) old new is alone object reads =
     }
 
 -- ---- writing
-
--- a row was put, and then those after it
-pub rows_written : {E : Type 0} (d : Doc) (ds : Docs) (r : Row) (rs : List Row) (start next : Members) (result : Result (BTreeMap (String Global) Value) E) → next ≡ put_field r d start
-    → IfOk result (λ m. members_view m.entries ≡ write_rows ds rs next) → IfOk result (λ m. members_view m.entries ≡ write_rows (doc d ds) (r ∷ rs) start)
-rows_written d ds r rs start next (Ok m) is later = later ∙ ap (write_rows ds rs) is ∙ sym (write_rows-cons d ds r rs start)
-rows_written d ds r rs start next (Err e) is later = tt
-
--- a table whose rows were put over its extensions
-pub all_written : (n : ObjectType) (rs : List Row) (ds : Docs) (e : Option Members) (start : Members) (m : BTreeMap (String Global) Value) → rs ≡ table n → start ≡ members_or_none e → members_view m.entries ≡ write_rows ds rs start
-    → view (Object m) ≡ write (table_doc n ds e)
-all_written n rs ds e start m is over all =
-    let P : List Row → Type 0 = λ x. members_view m.entries ≡ write_rows ds x start in
-    table_written n ds e m start over (sym (subst P is all))

@@ -1,17 +1,14 @@
 -- The parts of a table: rows that follow other rows, read, written and copied.
-use Rattle.std.proofs.Common.{◌≡◌, ◌∙◌, ℕ, List, [], ◌∷◌, ◌++◌, true, Option, None, Some, option_map, refl, ap, is_some, Bool, rules, Result, Ok, Err, OnOk, false, sym}
-use Rattle.serde_json.specs.Data.{Data, null, boolean, number, string, array, object, Members, put}
+use Rattle.std.proofs.Common.{◌≡◌, ◌∙◌, ℕ, List, [], ◌∷◌, ◌++◌, Bool, true, false, Option, None, Some, option_map, refl, sym, ap, is_some}
+use Rattle.serde_json.specs.Data.{Data, null, boolean, number, string, array, object, Members}
 use Rattle.serde_json.specs.Find.{as_object}
-use Rattle.utoipa_base.specs.Docs.{Doc, Docs, no_docs, doc, docs_append, list_doc, some_doc, table_doc}
-use Rattle.utoipa_base.specs.Fields.{field, fields, put_field}
-use Rattle.utoipa_base.specs.Kinds.{Kind, Row, required, optional, defaulted, ObjectType}
+use Rattle.utoipa_base.specs.Docs.{Doc, Docs, no_docs, doc, docs_append, docs_woven, list_doc, table_doc}
+use Rattle.utoipa_base.specs.Fields.{field, fields}
+use Rattle.utoipa_base.specs.Kinds.{Kind, Row, required, ObjectType}
 use Rattle.utoipa_base.specs.Reading.{both}
 use Rattle.utoipa_base.specs.Tables.{row}
-use Rattle.utoipa_base.specs.Rows.{part}
-use Rattle.serde_json.specs.View.{view}
-use Rattle.utoipa_base.specs.Shape.{RowsOf}
-use Rattle.utoipa_base.specs.Writing.{write, write_rows, put_row, is_empty}
-use Rattle.utoipa_base.proofs.ByRows.{put_field-required, put_field-some, put_field-full}
+use Rattle.utoipa_base.specs.Rows.{part, rows_woven}
+use Rattle.utoipa_base.proofs.ByRows.{fields-fit, fields-later}
 use Rattle.serde_json.specs.declared.value.Value as json
 
 -- the fields of rows, and after them those of further rows
@@ -51,6 +48,55 @@ later_none (Some xs) = refl
 pub join-later : (rs ss : List Row) (d : Data) → fields ss d ≡ None → fields (rs ++ ss) d ≡ None
 join-later rs ss d e = rw (join rs ss d, e) (later_none (fields rs d))
 
+-- ---- rows among others
+
+-- the field of the first row that fits, and those of the rows after it
+both_are : (o : Option Doc) (p : Option Docs) (xs : Docs) → both o p ≡ Some xs → (x : Doc) × (ys : Docs) × (o ≡ Some x) × (p ≡ Some ys) × (xs ≡ doc x ys)
+both_are None p xs h = absurd cc
+both_are (Some x) None xs h = absurd cc
+both_are (Some x) (Some ys) xs h = (x, ys, refl, refl, cc)
+
+none_fit : (d : Data) (xs : Docs) → fields [] d ≡ Some xs → xs ≡ no_docs
+unfolding fields
+none_fit d xs h = cc
+
+none_refused : (d : Data) → fields [] d ≡ None → ⊥
+unfolding fields
+none_refused d h = cc
+
+first_and_rest : (r : Row) (rs : List Row) (d : Data) (xs : Docs) → fields (r ∷ rs) d ≡ Some xs → (x : Doc) × (ys : Docs) × (field r d ≡ Some x) × (fields rs d ≡ Some ys) × (xs ≡ doc x ys)
+unfolding fields
+first_and_rest r rs d xs h = both_are (field r d) (fields rs d) xs h
+
+-- rows that fit, among others that do
+pub woven-fit : (order : List Bool) (rs ss : List Row) (d : Data) (xs ys : Docs) → fields rs d ≡ Some xs → fields ss d ≡ Some ys → fields (rows_woven order rs ss) d ≡ Some (docs_woven order xs ys)
+woven-fit [] rs ss d xs ys e f = join-fit rs ss d xs ys e f
+woven-fit (true ∷ order) [] ss d xs ys e f = f ∙ ap (λ x. Some (docs_woven (true ∷ order) x ys)) (sym (none_fit d xs e))
+woven-fit (true ∷ order) (r ∷ rs) ss d xs ys e f =
+    let is = first_and_rest r rs d xs e in
+    fields-fit r (rows_woven order rs ss) d is.0 _ is.2 (woven-fit order rs ss d is.1 ys is.3 f) ∙ ap (λ x. Some (docs_woven (true ∷ order) x ys)) (sym is.4)
+woven-fit (false ∷ order) rs [] d xs ys e f = e ∙ ap (λ y. Some (docs_woven (false ∷ order) xs y)) (sym (none_fit d ys f))
+woven-fit (false ∷ order) rs (s ∷ ss) d xs ys e f =
+    let is = first_and_rest s ss d ys f in
+    fields-fit s (rows_woven order rs ss) d is.0 _ is.2 (woven-fit order rs ss d xs is.1 e is.3) ∙ ap (λ y. Some (docs_woven (false ∷ order) xs y)) (sym is.4)
+
+refused_if : (o : Option Doc) (p q : Option Docs) → both o p ≡ None → (p ≡ None → q ≡ None) → both o q ≡ None
+refused_if None p q h rest = refl
+refused_if (Some x) None q h rest = rw (rest refl) refl
+refused_if (Some x) (Some ys) q h rest = absurd cc
+
+first_or_rest_refused : (r : Row) (rs ts : List Row) (d : Data) → fields (r ∷ rs) d ≡ None → (fields rs d ≡ None → fields ts d ≡ None) → fields (r ∷ ts) d ≡ None
+unfolding fields
+first_or_rest_refused r rs ts d h rest = refused_if (field r d) (fields rs d) (fields ts d) h rest
+
+-- rows are refused among others where they are by themselves
+pub woven-refused : (order : List Bool) (rs ss : List Row) (d : Data) → fields rs d ≡ None → fields (rows_woven order rs ss) d ≡ None
+woven-refused [] rs ss d h = join-first rs ss d h
+woven-refused (true ∷ order) [] ss d h = absurd (none_refused d h)
+woven-refused (true ∷ order) (r ∷ rs) ss d h = first_or_rest_refused r rs (rows_woven order rs ss) d h (woven-refused order rs ss d)
+woven-refused (false ∷ order) rs [] d h = h
+woven-refused (false ∷ order) rs (s ∷ ss) d h = fields-later s (rows_woven order rs ss) d (woven-refused order rs ss d h)
+
 -- ---- the parts
 
 fields_of_part_if : (o : Option Docs) (xs : Docs) → option_map list_doc o ≡ Some (list_doc xs) → o ≡ Some xs
@@ -85,37 +131,6 @@ has_members name k (object ms) x e = refl
 
 -- ---- the parts of a table, written one after the other
 
-join_written : (xs : Docs) (rs : List Row) → RowsOf xs rs → (ys : Docs) (ss : List Row) (ms : Members) → write_rows (docs_append xs ys) (rs ++ ss) ms ≡ write_rows ys ss (write_rows xs rs ms)
-unfolding RowsOf write_rows
-join_written no_docs [] h ys ss ms = refl
-join_written no_docs (r ∷ rs) h ys ss ms = absurd h
-join_written (doc d xs) [] h ys ss ms = absurd h
-join_written (doc d xs) (r ∷ rs) h ys ss ms = join_written xs rs h.1 ys ss (put_row r d (write d) ms)
-
--- a part, and after it the rest of the table
-pub rows-part : (xs : Docs) (rs : List Row) → RowsOf xs rs → (ys : Docs) (ss : List Row) (start next ms : Members) → next ≡ write_rows xs rs start → write_rows ys ss next ≡ ms → write_rows (docs_append xs ys) (rs ++ ss) start ≡ ms
-rows-part xs rs h ys ss start next ms is later = join_written xs rs h ys ss start ∙ ap (write_rows ys ss) (sym is) ∙ later
-
--- a required member whose value was written before
-pub required_written : (name : List ℕ) (k : Kind) (d : Doc) (v : Data) (start next : Members) → next ≡ put name v start → v ≡ write d → next ≡ put_field (row name required k) d start
-required_written name k d v start next is written = is ∙ ap (λ w. put name w start) written ∙ sym (put_field-required name k d start)
-
--- an optional member that is there
-pub optional_written : (name : List ℕ) (k : Kind) (d : Doc) (v : Data) (start next : Members) → next ≡ put name v start → v ≡ write d → next ≡ put_field (row name optional k) (some_doc d) start
-optional_written name k d v start next is written = is ∙ ap (λ w. put name w start) written ∙ sym (put_field-some name k d start)
-
--- a defaulted member that is not empty
-pub default_written : (name : List ℕ) (k : Kind) (d : Doc) (v : Data) (start next : Members) → next ≡ put name v start → v ≡ write d → is_empty d ≡ false → next ≡ put_field (row name defaulted k) d start
-default_written name k d v start next is written full = is ∙ ap (λ w. put name w start) written ∙ sym (put_field-full name k d start full)
-
-pub on_ok : {T E P Q : Type 0} (r : Result T E) → OnOk r P → (P → Q) → OnOk r Q
-on_ok (Ok v) h f = f h
-on_ok (Err e) h f = tt
-
--- true and false as a tree
-pub view-Bool : (b : Bool) → view (json.Bool b) ≡ boolean b
-view-Bool b = search (rules, json.the_lemmas)
-
 -- ---- documents of equal parts
 
 -- a field, and those after it
@@ -125,6 +140,10 @@ same_field d e ds es first others = rw (first, others) refl
 -- a part, and the fields after it
 pub same_part : (xs ys ds es : Docs) → xs ≡ ys → ds ≡ es → docs_append xs ds ≡ docs_append ys es
 same_part xs ys ds es part others = rw (part, others) refl
+
+-- a part, and the fields that it stands among
+pub same_woven : (order : List Bool) (xs ys ds es : Docs) → xs ≡ ys → ds ≡ es → docs_woven order xs ds ≡ docs_woven order ys es
+same_woven order xs ys ds es part others = rw (part, others) refl
 
 -- the fields of a table, and its extensions
 pub same_table : (n : ObjectType) (ds es : Docs) (x y : Option Members) → ds ≡ es → x ≡ y → table_doc n ds x ≡ table_doc n es y

@@ -4,41 +4,11 @@ use Rattle.std.proofs.lemmas.List.{map-append}
 use Rattle.std.specs.BTreeMap.{insert_entry}
 use Rattle.std.specs.List.Sorted.{IsStrictlySortedBy}
 use Rattle.std.specs.Map.{keys_of}
-use Rattle.serde_json.specs.Data.{Data, Members, no_members, put}
-use Rattle.serde_json.specs.View.{view, members_view}
-use Rattle.serde_json.specs.declared.value.Value.{Value, Object}
 use Rattle.utoipa_base.specs.Docs.{Doc, map_doc, entries_of_list}
 use Rattle.utoipa_base.specs.Views.{pairs_of, map_of_docs}
-use Rattle.utoipa_base.specs.Writing.{write}
-use Rattle.utoipa_base.proofs.Maps.{texts, insert_last, members_by, put_last, write-map_of_entries}
+use Rattle.utoipa_base.proofs.Maps.{texts, insert_last}
 
 -- ---- writing
-
--- the entries before `left` have been written as `ms`
-pub record MapWritten {T : Type 0} (f : T → Doc) (all left : List (String Global × T)) (ms : Members) : Type 0 where
-  pub done : List (String Global × T)
-  pub split : all ≡ done ++ left
-  pub members : ms ≡ members_by (λ x. write (f x)) done
-
-pub written_begun : {T : Type 0} (f : T → Doc) (all left : List (String Global × T)) (ms : Members) → left ≡ all → ms ≡ no_members → MapWritten f all left ms
-written_begun f all left ms whole none = record { done = []; split = sym whole; members = none }
-
-pub written_step : {T : Type 0} (f : T → Doc) (all left : List (String Global × T)) (ms ns : Members) (e : String Global × T) (more : List (String Global × T)) (v : Data) → MapWritten f all left ms → left ≡ e ∷ more
-    → IsStrictlySortedBy string_cmp (keys_of all) → v ≡ write (f e.1) → ns ≡ put (string_bytes e.0) v ms → MapWritten f all more ns
-written_step f all left ms ns e more v so_far rest ordered written is =
-    let whole : all ≡ so_far.done ++ e ∷ more = so_far.split ∙ ap (λ r. so_far.done ++ r) rest in
-    let sorted = subst (λ es. IsStrictlySortedBy string_cmp (keys_of es)) whole ordered in
-    record {
-      done = so_far.done ++ e ∷ [];
-      split = whole ∙ sym (append_assoc so_far.done (e ∷ []) more);
-      members = is ∙ ap (λ w. put (string_bytes e.0) w ms) written ∙ ap (put (string_bytes e.0) (write (f e.1))) so_far.members ∙ put_last (λ x. write (f x)) so_far.done e more sorted;
-    }
-
-pub written_map : {T : Type 0} (f : T → Doc) (all left : List (String Global × T)) (m : BTreeMap (String Global) Value) → MapWritten f all left (members_view m.entries) → left ≡ []
-    → view (Object m) ≡ write (map_doc (entries_of_list (pairs_of f all)))
-written_map f all left m so_far none =
-    let whole : so_far.done ≡ all = sym (so_far.split ∙ ap (λ r. so_far.done ++ r) none ∙ append-nil so_far.done) in
-    write-map_of_entries f all m (so_far.members ∙ ap (members_by (λ x. write (f x))) whole)
 
 -- ---- copying
 

@@ -1,5 +1,5 @@
 -- A document: a value of the model as contracts see it.
-use Rattle.std.specs.Prelude.{ℕ, ℤ, List, [], ◌∷◌, Bool, Option, None, Some}
+use Rattle.std.specs.Prelude.{ℕ, ℤ, List, [], ◌∷◌, Bool, true, false, Option, None, Some}
 use Rattle.serde_json.specs.Data.{Data, Members}
 use Rattle.utoipa_base.specs.Kinds.{ObjectType, Kind}
 
@@ -59,6 +59,14 @@ option_doc (Some d) = some_doc d
 abbrev pub docs_append : Docs → Docs → Docs
 docs_append no_docs ys = ys
 docs_append (doc d xs) ys = doc d (docs_append xs ys)
+
+-- documents among others: at each true the next of the former, at each false the next of the latter, and at last what is left of both
+abbrev pub docs_woven : List Bool → Docs → Docs → Docs
+docs_woven [] xs ys = docs_append xs ys
+docs_woven (true ∷ order) no_docs ys = ys
+docs_woven (true ∷ order) (doc d xs) ys = doc d (docs_woven order xs ys)
+docs_woven (false ∷ order) xs no_docs = xs
+docs_woven (false ∷ order) xs (doc d ys) = doc d (docs_woven order xs ys)
 
 abbrev pub docs_of : List Doc → Docs
 docs_of [] = no_docs

@@ -1,21 +1,17 @@
 -- The members of an object in the order of their names: the fields of its table's rows, and its extensions among them.
-use Rattle.std.specs.Prelude.{◌≡◌, ℕ, List, [], ◌∷◌, ◌++◌, Bool, true, false, ◌&&◌, Option, Some, None, option_map}
+use Rattle.std.specs.Prelude.{◌≡◌, ℕ, List, [], ◌∷◌, Bool, true, false, ◌&&◌, Option, Some, None, option_map}
 use Rattle.std.specs.Option.{option_and_then}
 use Rattle.std.specs.Ordering.{nat_cmp, match_ordering, is_eq}
 use Rattle.std.specs.declared.cmp.Ordering.{Ordering}
 use Rattle.std.specs.declared.cmp.Ordering.TheVariants.{Less, Equal, Greater}
 use Rattle.std.specs.Cmp.Lexicographic.{slice_cmp}
-use Rattle.json.specs.Token.{key, end_object}
-use Rattle.json.specs.Written.{Written}
 use Rattle.serde_json.specs.Data.{Data, Members, no_members, member}
-use Rattle.serde_json.specs.Written.{members_have_float}
 use Rattle.utoipa_base.specs.Docs.{Doc, text_doc, flow_doc, tagged_doc, table_doc, Docs, no_docs, doc}
 use Rattle.utoipa_base.specs.Kinds.{Row, required, text}
-use Rattle.utoipa_base.specs.Printed.{Adds, members_tokens}
 use Rattle.utoipa_base.specs.Tables.{table, row}
 use Rattle.utoipa_base.specs.Writing.{write, left_out}
 
--- ---- fields in the order of their names
+-- ---- fields
 
 -- a row and its field
 abbrev pub Field : Type 0
@@ -53,34 +49,26 @@ abbrev pub insert : Field → List Field → Option (List Field)
 insert p [] = Some (p ∷ [])
 insert p (q ∷ qs) = placed (is_below p.0.name (q ∷ qs)) (is_greater (slice_cmp nat_cmp p.0.name q.0.name)) p q qs (insert p qs)
 
-abbrev pub insert_all : List Field → List Field → Option (List Field)
-insert_all [] qs = Some qs
-insert_all (p ∷ ps) qs = option_and_then (insert_all ps) (insert p qs)
-
--- the fields in the order of their names; none where two have one name
-abbrev pub in_order : List Field → Option (List Field)
-in_order ps = insert_all ps []
-
 -- ---- the fields of an object
 
--- fields, with the one of a tag
-abbrev pub tagged : List ℕ → List ℕ → List Field → List Field
-tagged name word ps = ps ++ (row name required text, text_doc word) ∷ []
+-- the field of a tag
+abbrev pub tag : List ℕ → List ℕ → Field
+tag name word = (row name required text, text_doc word)
 
--- the fields of an object and its extensions, where the document is one of a table, with any tags
+-- the fields of an object, with the one of a tag
+abbrev pub tagged : List ℕ → List ℕ → List Field × Option Members → Option (List Field × Option Members)
+tagged name word p = option_map (λ ps. (ps, p.1)) (insert (tag name word) p.0)
+
+-- the fields of an object in the order of their names, and its extensions, where the document is one of a table, with any tags
 abbrev pub object_parts : Doc → Option (List Field × Option Members)
 object_parts (table_doc n ds e) = Some (fields_by ds (table n), e)
-object_parts (tagged_doc name word d) = option_map (λ p. (tagged name word p.0, p.1)) (object_parts d)
+object_parts (tagged_doc name word d) = option_and_then (tagged name word) (object_parts d)
 object_parts (flow_doc d) = object_parts d
 object_parts d = None
 
--- the same, in the order of their names
-abbrev pub sorted_parts : List Field × Option Members → Option (List Field) × Option Members
-sorted_parts p = (in_order p.0, p.1)
-
 -- the document is an object, whose fields in the order of their names are those of the rows, and it has these extensions
 abbrev pub IsObjectBy : Doc → Docs → List Row → Option Members → Type 0
-IsObjectBy d ds rs e = option_map sorted_parts (object_parts d) ≡ Some (Some (fields_by ds rs), e)
+IsObjectBy d ds rs e = object_parts d ≡ Some (fields_by ds rs, e)
 
 -- ---- the members that are there
 
@@ -140,17 +128,3 @@ among (member k d ms) es = joined (names_before k es) (member k d (among ms (nam
 abbrev pub rest_after : Members → Members → Members
 rest_after no_members es = es
 rest_after (member k d ms) es = rest_after ms (names_after k es)
-
--- members were printed, each after those of the others that come before it, and these are left
-pub record PrintsAmong (ms others left : Members) (old new : Written) : Type 0 where
-  pub rest : left ≡ rest_after ms others
-  pub added : Adds (members_have_float (among ms others)) (members_tokens (among ms others)) old new
-
--- a name was printed, after those of the others that come before it, and these are left
-pub record BeginsMember (name : List ℕ) (others left : Members) (old new : Written) : Type 0 where
-  pub rest : left ≡ names_after name others
-  pub added : Adds (members_have_float (names_before name others)) (members_tokens (names_before name others) ++ key name ∷ []) old new
-
--- members were printed, and the brace that closes an object after them
-abbrev pub EndsObject : Members → Written → Written → Type 0
-EndsObject ms old new = Adds (members_have_float ms) (members_tokens ms ++ end_object ∷ []) old new

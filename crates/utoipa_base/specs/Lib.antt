@@ -20,6 +20,7 @@ pub mod Views
 pub mod Refs
 pub mod OfKind
 pub mod Lists
+pub mod NameHashes
 pub mod Fill
 pub mod AllOrNone
 pub mod References
@@ -30,3 +31,7 @@ pub mod Mapped
 pub mod Printed
 pub mod InOrder
 pub mod Pending
+pub mod Events
+pub mod Sent
+pub mod Build
+pub mod SentAmong

@@ -118,12 +118,12 @@ pub reference_of_kind : (r : Ref) → IsOf (reference_doc r) (value_of (named re
 reference_of_kind r =
     table_of_kind _ _
     (next_row (text_of_kind r.ref_location)
-    (next_row (text_of_kind r.description)
-    (next_row (text_of_kind r.summary)
-    (next_row (option_of_kind flag_doc flag flag_of_kind r.read_only)
-    (next_row (option_of_kind flag_doc flag flag_of_kind r.write_only)
     (next_row (option_of_kind views.tree_of any tree_of_kind r.default)
-    (next_row (option_of_kind views.text_of text text_of_kind r.title) no_rows)))))))
+    (next_row (text_of_kind r.description)
+    (next_row (option_of_kind flag_doc flag flag_of_kind r.read_only)
+    (next_row (text_of_kind r.summary)
+    (next_row (option_of_kind views.text_of text text_of_kind r.title)
+    (next_row (option_of_kind flag_doc flag flag_of_kind r.write_only) no_rows)))))))
     tt
 
 -- a reference, or a value in its place

@@ -11,12 +11,12 @@ abbrev pub reference_doc : Ref → Doc
 reference_doc r =
     table_doc reference_object
     (doc (text_of r.ref_location)
-    (doc (text_of r.description)
-    (doc (text_of r.summary)
-    (doc (option_of flag_doc r.read_only)
-    (doc (option_of flag_doc r.write_only)
     (doc (option_of tree_of r.default)
-    (doc (option_of text_of r.title) no_docs)))))))
+    (doc (text_of r.description)
+    (doc (option_of flag_doc r.read_only)
+    (doc (text_of r.summary)
+    (doc (option_of text_of r.title)
+    (doc (option_of flag_doc r.write_only) no_docs)))))))
     None
 
 -- a reference in the place of a kind, or a value of it

@@ -1,13 +1,14 @@
-ghost use Rattle.std.specs.Prelude.{refl, false};
+ghost use Rattle.std.specs.Prelude.{false};
 ghost use Rattle.utoipa_base.specs.Kinds.{flag};
 ghost use Rattle.utoipa_base.specs.Flags.{deprecated_doc};
 ghost use Rattle.utoipa_base.specs.OfKind.{deprecated_of_kind};
 
+use crate::emit::{Documented, Emit};
 use crate::fault::ReadFault;
 use crate::readings::Readings;
 use crate::scalar::read_flag;
+use crate::sink::JsonSink;
 use crate::tree::Tree;
-use json::Writer;
 use serde_json::Value;
 use std::alloc::{AllocError, Global};
 
@@ -22,12 +23,8 @@ pub enum Deprecated {
 }
 
 /// True or false.
-#[tactic(auto, using(crate::proofs::ByKind::by_kind, crate::proofs::Places::places, crate::proofs::Tokens::by_tokens))]
+#[tactic(auto, using(crate::proofs::ByKind::by_kind, crate::proofs::Places::places))]
 impl Tree for Deprecated {
-    ghost kind = { flag };
-
-    ghost doc = { deprecated_doc };
-
     ghost is_of_kind = { deprecated_of_kind };
 
     fn read_plain(
@@ -42,21 +39,24 @@ impl Tree for Deprecated {
         }
     }
 
-    fn to_value(&self, _alloc: Global) -> Result<Value, AllocError> {
-        match self {
-            Deprecated::True => Ok(Value::Bool(true)),
-            Deprecated::False => Ok(Value::Bool(false)),
-        }
+    fn try_clone(&self, _alloc: Global) -> Result<Deprecated, AllocError> {
+        Ok(*self)
     }
+}
 
-    fn print(&self, _alloc: Global, out: &mut Writer) -> Result<(), AllocError> {
+impl Documented for Deprecated {
+    ghost kind = { flag };
+
+    ghost doc = { deprecated_doc };
+}
+
+/// True or false.
+#[tactic(auto, using(crate::proofs::Sending::by_sending))]
+impl Emit for Deprecated {
+    fn emit<S: JsonSink>(&self, out: &mut S) -> Result<(), AllocError> {
         match self {
             Deprecated::True => out.boolean(true),
             Deprecated::False => out.boolean(false),
         }
-    }
-
-    fn try_clone(&self, _alloc: Global) -> Result<Deprecated, AllocError> {
-        Ok(*self)
     }
 }

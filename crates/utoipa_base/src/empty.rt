@@ -1,31 +1,27 @@
 //! Values that a defaulted member leaves out.
-ghost use Rattle.std.specs.Prelude.{◌≡◌, OnOk, OnErr};
+ghost use Rattle.std.specs.Prelude.{◌≡◌};
 ghost use Rattle.serde_json.specs.Find.{get};
-ghost use Rattle.serde_json.specs.View.{view, members_view};
+ghost use Rattle.serde_json.specs.View.{view};
 ghost use Rattle.utoipa_base.specs.Kinds.{defaulted};
-ghost use Rattle.utoipa_base.specs.Fields.{field, put_field};
+ghost use Rattle.utoipa_base.specs.Fields.{field};
 ghost use Rattle.utoipa_base.specs.Reading.{empty_doc};
 ghost use Rattle.utoipa_base.specs.Reads.{Reads};
 ghost use Rattle.utoipa_base.specs.Tables.{row};
 ghost use Rattle.utoipa_base.specs.Values.{values_of};
-ghost use Rattle.utoipa_base.specs.Writing.{is_empty};
 
 use crate::fault::ReadFault;
+use crate::omit::Omit;
 use crate::readings::Readings;
 use crate::tree::Tree;
-use serde_json::{Map, Value, put};
-use std::alloc::{AllocError, Global};
+use serde_json::Value;
+use std::alloc::Global;
 use std::collections::BTreeMap;
 
 /// A type with an empty value, for which an absent member stands.
-pub trait Empty: Tree {
+pub trait Empty: Tree + Omit {
     /// The empty value.
     fn empty(alloc: Global) -> Self
         ensures { Self.doc result ≡ empty_doc Self.kind };
-
-    /// Whether the value is the empty one.
-    fn is_left_out(&self) -> bool
-        ensures { result ≡ is_empty (Self.doc self.now) };
 }
 
 /// The empty text.
@@ -33,10 +29,6 @@ pub trait Empty: Tree {
 impl Empty for String {
     fn empty(alloc: Global) -> String {
         String::new(alloc)
-    }
-
-    fn is_left_out(&self) -> bool {
-        self.is_empty()
     }
 }
 
@@ -46,10 +38,6 @@ impl Empty for bool {
     fn empty(_alloc: Global) -> bool {
         false
     }
-
-    fn is_left_out(&self) -> bool {
-        !*self
-    }
 }
 
 /// The list of no items.
@@ -58,10 +46,6 @@ impl<T: Tree> Empty for Vec<T> {
     fn empty(alloc: Global) -> Vec<T> {
         Vec::new(alloc)
     }
-
-    fn is_left_out(&self) -> bool {
-        self.as_slice().is_empty()
-    }
 }
 
 /// The map of no entries.
@@ -69,10 +53,6 @@ impl<T: Tree> Empty for Vec<T> {
 impl<T: Tree> Empty for BTreeMap<String, T> {
     fn empty(alloc: Global) -> BTreeMap<String, T> {
         BTreeMap::new(alloc)
-    }
-
-    fn is_left_out(&self) -> bool {
-        self.is_empty()
     }
 }
 
@@ -92,22 +72,4 @@ pub fn row_or_empty<T: Empty>(
         Some(member) => T::read_plain(alloc, member, readings),
         None => Ok(T::empty(alloc)),
     }
-}
-
-/// Writes a defaulted member, unless it is empty. Fails where memory runs out; then the members are as they were.
-#[tactic(auto, using(crate::proofs::ByRows::by_row))]
-pub fn write_unless_empty<T: Empty>(
-    members: &mut Map<String, Value>,
-    alloc: Global,
-    name: &str,
-    value: &T,
-) -> Result<(), AllocError>
-    ensures ok { OnOk result (members_view members.new.entries
-        ≡ put_field (row name.now defaulted T.kind) (T.doc value.now) (members_view members.old.entries)) }
-    ensures err { OnErr result (members.new.entries ≡ members.old.entries) }
-{
-    if value.is_left_out() {
-        return Ok(());
-    }
-    put(members, alloc, name, value.to_value(alloc)?)
 }

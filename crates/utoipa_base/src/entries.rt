@@ -1,21 +1,22 @@
 //! Objects whose members are entries of a map, beside their extensions.
-ghost use Rattle.std.specs.Prelude.{IfOk, OnOk, ◌≡◌};
+ghost use Rattle.std.specs.Prelude.{OnOk};
 ghost use Rattle.serde_json.specs.View.{view};
+ghost use Rattle.utoipa_base.specs.Events.{events};
 ghost use Rattle.utoipa_base.specs.Kinds.{entries_of};
-ghost use Rattle.utoipa_base.specs.Printed.{Prints};
 ghost use Rattle.utoipa_base.specs.Reading.{read};
 ghost use Rattle.utoipa_base.specs.Reads.{Reads};
 ghost use Rattle.utoipa_base.specs.Values.{values};
 ghost use Rattle.utoipa_base.specs.Views.{entries_beside};
 ghost use Rattle.utoipa_base.specs.Writing.{write};
 
-use crate::extensions::{Extensions, is_extension_name, read_extensions, written_extensions};
+use crate::emit::Emit;
+use crate::extensions::{Extensions, is_extension_name, read_extensions};
 use crate::fault::ReadFault;
 use crate::pending::PendingExtensions;
 use crate::readings::Readings;
+use crate::sink::JsonSink;
 use crate::tree::Tree;
-use json::Writer;
-use serde_json::{Value, put};
+use serde_json::Value;
 use std::alloc::{AllocError, Global};
 use std::collections::BTreeMap;
 
@@ -46,37 +47,20 @@ pub fn read_entries<T: Tree>(
     Ok((map, extensions))
 }
 
-/// The object of some entries and extensions; where an entry has the name of an extension, the entry stands. Fails where memory
-/// runs out.
-pub fn write_entries<T: Tree>(
-    alloc: Global,
-    entries: &BTreeMap<String, T>,
-    extensions: &Option<Extensions>,
-) -> Result<Value, AllocError>
-    ensures { IfOk result (λ v. view v ≡ write (entries_beside T.doc entries.now extensions.now)) }
-{
-    let mut members = written_extensions(alloc, extensions)?;
-    for (key, member) in entries.iter() {
-        put(&mut members, alloc, key.as_str(), member.to_value(alloc)?)?;
-    }
-    Ok(Value::Object(members))
-}
-
-/// Prints the object of some entries and extensions, as [`write_entries`] writes it. Fails where memory runs out; then some of
-/// it may have been printed.
-pub fn print_entries<T: Tree>(
-    alloc: Global,
-    out: &mut Writer,
+/// Sends the object of some entries and extensions to a sink; where an entry has the name of an extension, the entry stands. Fails
+/// where the sink does; then some of it may have been sent.
+pub fn emit_entries<T: Emit, S: JsonSink>(
+    out: &mut S,
     entries: &BTreeMap<String, T>,
     extensions: &Option<Extensions>,
 ) -> Result<(), AllocError>
-    ensures { OnOk result (Prints (write (entries_beside T.doc entries.now extensions.now)) out.old out.new) }
+    ensures { OnOk result (S.adds out.old (events (write (entries_beside T.doc entries.now extensions.now))) out.new) }
 {
     out.begin_object()?;
-    let mut pending = PendingExtensions::of(extensions);
+    let mut left = PendingExtensions::of(extensions);
     for (key, member) in entries.iter() {
-        pending = pending.begin_member(out, key.as_str())?;
-        member.print(alloc, out)?;
+        left = left.emit_key(out, key.as_str())?;
+        member.emit(out)?;
     }
-    pending.end_object(out)
+    left.emit_end(out)
 }

@@ -15,7 +15,7 @@ use std::collections::BTreeMap;
 
 mod trees;
 
-pub use trees::{clone_extensions, is_extension_name, read_extensions, written_extensions};
+pub use trees::{clone_extensions, is_extension_name, read_extensions};
 
 /// Specification extensions (OpenAPI 3.1, section 4.9): members of an object whose names begin `x-`, in the order of their
 /// names. Only the builder puts `x-` before a name; another name that is set here is written as
@@ -134,7 +134,7 @@ impl Extensions {
 }
 
 // Made anew, so that the copy lies in the memory that is handed in.
-pub(crate) fn copied_members(
+fn copied_members(
     alloc: Global,
     members: &Map<String, Value>,
 ) -> Result<Map<String, Value>, AllocError>

@@ -2,14 +2,14 @@
 //!
 //! A function that holds a large value where it answers a fault owes for each such place that all the fields of that value are let go.
 //! Here what is kept is of any type, and letting it go is one call.
-ghost use Rattle.std.specs.Prelude.{◌≡◌, ◌++◌, ℕ, List, length, true, Ok, Err, IfOk, IfErr, option_map};
+ghost use Rattle.std.specs.Prelude.{◌≡◌, ℕ, List, length, Bool, true, Ok, Err, IfOk, IfErr, option_map};
 ghost use Rattle.serde_json.specs.View.{view};
-ghost use Rattle.utoipa_base.specs.Docs.{Docs, docs_append, list_doc, table_doc};
+ghost use Rattle.utoipa_base.specs.Docs.{Docs, docs_woven, list_doc, table_doc};
 ghost use Rattle.utoipa_base.specs.Extensions.{extensions_view};
 ghost use Rattle.utoipa_base.specs.Kinds.{ObjectType, Row, named};
 ghost use Rattle.utoipa_base.specs.Reading.{read};
 ghost use Rattle.utoipa_base.specs.Reads.{Reads};
-ghost use Rattle.utoipa_base.specs.Rows.{part, rows_values, texts};
+ghost use Rattle.utoipa_base.specs.Rows.{part, rows_values, rows_woven, texts};
 ghost use Rattle.utoipa_base.specs.Tables.{table, has_extensions};
 ghost use Rattle.utoipa_base.specs.Values.{values};
 
@@ -49,10 +49,11 @@ pub fn read_rows_beside<R: RowFields, K: Drop>(
     Ok((fields, kept))
 }
 
-/// An object by the names of the first rows of its table, its extensions, and a value that is kept beside them. Fails as
+/// An object by the names of some rows of its table, its extensions, and a value that is kept beside them. Fails as
 /// [`read_table`](crate::read_table) does, and then gives up what was kept.
 ///
-/// What is kept stands for the later rows, which were read before, from where the counter stood at `start`.
+/// What is kept stands for the other rows, which were read before, from where the counter stood at `start`. Which rows of the table are
+/// the others' is told by `order`.
 pub fn read_table_beside<R: RowFields, K: Drop>(
     alloc: Global,
     tree: &Value,
@@ -62,11 +63,11 @@ pub fn read_table_beside<R: RowFields, K: Drop>(
     readings: &mut Readings,
 ) -> Result<(R, Option<Extensions>, K), ReadFault>
     requires { length names.now ≡ R.count }
-    ensures { (n : ObjectType) (later : List Row) (docs : K → Docs) (start : ℕ)
-        → R.rows (texts names.now) ++ later ≡ table n → has_extensions n ≡ true
-        → Reads {A = Docs} (part later (view tree.now)) list_doc (Ok (docs kept)) start readings.old (rows_values later (view tree.now))
+    ensures { (n : ObjectType) (order : List Bool) (others : List Row) (docs : K → Docs) (start : ℕ)
+        → rows_woven order (R.rows (texts names.now)) others ≡ table n → has_extensions n ≡ true
+        → Reads {A = Docs} (part others (view tree.now)) list_doc (Ok (docs kept)) start readings.old (rows_values others (view tree.now))
         → Reads (read (named n) (view tree.now))
-        (λ all. table_doc n (docs_append (R.docs all.0) (docs all.2)) (option_map extensions_view all.1)) result
+        (λ all. table_doc n (docs_woven order (R.docs all.0) (docs all.2)) (option_map extensions_view all.1)) result
         start readings.new (values (view tree.now)) }
 {
     if !tree.is_object() {

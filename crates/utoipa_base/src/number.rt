@@ -1,13 +1,14 @@
-ghost use Rattle.std.specs.Prelude.{◌≡◌, refl, false};
+ghost use Rattle.std.specs.Prelude.{◌≡◌};
 ghost use Rattle.utoipa_base.specs.Kinds.{numeral};
 ghost use Rattle.utoipa_base.specs.Numbers.{number_doc};
 ghost use Rattle.utoipa_base.specs.OfKind.{number_of_kind};
 ghost use Rattle.utoipa_base.specs.declared.number.Number.TheVariants.{Int, UInt};
 
+use crate::emit::{Documented, Emit};
 use crate::fault::ReadFault;
 use crate::readings::Readings;
+use crate::sink::JsonSink;
 use crate::tree::Tree;
-use json::Writer;
 use serde_json::Value;
 use std::alloc::{AllocError, Global};
 
@@ -23,12 +24,8 @@ pub enum Number {
 }
 
 /// A whole number.
-#[tactic(auto, using(crate::proofs::Numerals::by_numeral, crate::proofs::ByKind::by_kind, crate::proofs::Tokens::by_tokens))]
+#[tactic(auto, using(crate::proofs::Numerals::by_numeral, crate::proofs::ByKind::by_kind))]
 impl Tree for Number {
-    ghost kind = { numeral };
-
-    ghost doc = { number_doc };
-
     ghost is_of_kind = { number_of_kind };
 
     fn read_plain(
@@ -45,22 +42,25 @@ impl Tree for Number {
         }
     }
 
-    fn to_value(&self, _alloc: Global) -> Result<Value, AllocError> {
-        match self {
-            Number::Int(number) => Ok(Value::from(*number as i64)),
-            Number::UInt(number) => Ok(Value::from(*number as u64)),
-        }
+    fn try_clone(&self, _alloc: Global) -> Result<Number, AllocError> {
+        Ok(*self)
     }
+}
 
-    fn print(&self, _alloc: Global, out: &mut Writer) -> Result<(), AllocError> {
+impl Documented for Number {
+    ghost kind = { numeral };
+
+    ghost doc = { number_doc };
+}
+
+/// A whole number.
+#[tactic(auto, using(crate::proofs::Sending::by_sending))]
+impl Emit for Number {
+    fn emit<S: JsonSink>(&self, out: &mut S) -> Result<(), AllocError> {
         match self {
             Number::Int(number) => out.i64(*number as i64),
             Number::UInt(number) => out.u64(*number as u64),
         }
-    }
-
-    fn try_clone(&self, _alloc: Global) -> Result<Number, AllocError> {
-        Ok(*self)
     }
 }
 

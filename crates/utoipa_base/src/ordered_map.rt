@@ -7,35 +7,37 @@ ghost use Rattle.utoipa_base.specs.Views.{ordered_map_of_docs, shown_members, pa
 ghost use Rattle.utoipa_base.specs.Docs.{entries_of_list};
 ghost use Rattle.utoipa_base.specs.Writing.{put_written};
 
+use crate::emit::{Documented, Emit};
 use crate::empty::Empty;
 use crate::fault::ReadFault;
+use crate::name_hasher::NameHasher;
 use crate::readings::Readings;
+use crate::sink::JsonSink;
 use crate::tree::{Place, Tree};
 use indexmap::IndexMap;
-use json::Writer;
-use serde_json::{Map, Value, put};
+use serde_json::Value;
 use std::alloc::{AllocError, Global};
 use std::collections::BTreeMap;
+use std::hash::BuildHasher;
+
+/// A map from names that keeps the order of its entries. `IndexMap::with_hasher(alloc, NameHasher::new())` is an empty one.
+pub type OrderedMap<T> = IndexMap<String, T, NameHasher>;
 
 /// An object as a map from the names of its members, which keeps the order of its entries while it is built. It is read and
-/// written in the order of the names.
+/// written in the order of the names. Reading salts its hashes with the names, and a copy keeps the salt.
 #[tactic(auto, using(crate::proofs::OrderedMaps::by_ordered_maps))]
-impl<T: Tree> Tree for IndexMap<String, T> {
-    ghost kind = { ordered_map_of T.kind };
-
-    ghost doc = { ordered_map_of_docs T.doc };
-
+impl<T: Tree> Tree for OrderedMap<T> {
     ghost is_of_kind = { ordered_map_of_kind T.doc T.kind T.is_of_kind };
 
     fn read_plain(
         alloc: Global,
         tree: &Value,
         readings: &mut Readings,
-    ) -> Result<IndexMap<String, T>, ReadFault> {
+    ) -> Result<OrderedMap<T>, ReadFault> {
         let Some(members) = tree.as_object() else {
             return Err(ReadFault::Kind("map"));
         };
-        let mut map = IndexMap::new(alloc);
+        let mut map = IndexMap::with_hasher(alloc, NameHasher::from_names(members));
         for (key, member) in members.iter() {
             let name = key.clone()?;
             let value = T::read_plain(alloc, member, readings)?;
@@ -44,26 +46,8 @@ impl<T: Tree> Tree for IndexMap<String, T> {
         Ok(map)
     }
 
-    fn to_value(&self, alloc: Global) -> Result<Value, AllocError> {
-        let mut members = Map::new(alloc);
-        for (key, member) in self.iter() {
-            put(&mut members, alloc, key.as_str(), member.to_value(alloc)?)?;
-        }
-        Ok(Value::Object(members))
-    }
-
-    fn print(&self, alloc: Global, out: &mut Writer) -> Result<(), AllocError> {
-        let sorted = in_order_of_names(alloc, self)?;
-        out.begin_object()?;
-        for (key, member) in sorted.iter() {
-            out.key(key)?;
-            member.print(alloc, out)?;
-        }
-        out.end_object()
-    }
-
-    fn try_clone(&self, alloc: Global) -> Result<IndexMap<String, T>, AllocError> {
-        let mut map = IndexMap::new(alloc);
+    fn try_clone(&self, alloc: Global) -> Result<OrderedMap<T>, AllocError> {
+        let mut map = IndexMap::with_hasher(alloc, *self.hasher());
         for (key, member) in self.iter() {
             let name = key.clone()?;
             let value = member.try_clone(alloc)?;
@@ -73,22 +57,7 @@ impl<T: Tree> Tree for IndexMap<String, T> {
     }
 }
 
-/// The entries of a map in the order of their names. Fails where memory runs out.
-fn in_order_of_names<'a, T: Tree>(
-    alloc: Global,
-    map: &'a IndexMap<String, T>,
-) -> Result<BTreeMap<&'a str, &'a T>, AllocError>
-    ensures { IfOk result (λ sorted. shown_members T.doc sorted.entries
-        ≡ put_written (entries_of_list (pairs_of T.doc map.now.entries)) no_members) }
-{
-    let mut sorted = BTreeMap::new(alloc);
-    for (key, member) in map.iter() {
-        sorted.insert(key.as_str(), member)?;
-    }
-    Ok(sorted)
-}
-
-impl<T: Tree> Place for IndexMap<String, T> {
+impl<T: Tree> Place for OrderedMap<T> {
     fn is_schema() -> bool {
         false
     }
@@ -96,12 +65,42 @@ impl<T: Tree> Place for IndexMap<String, T> {
 
 /// The map of no entries.
 #[tactic(auto, using(crate::proofs::Empties::empties))]
-impl<T: Tree> Empty for IndexMap<String, T> {
-    fn empty(alloc: Global) -> IndexMap<String, T> {
-        IndexMap::new(alloc)
+impl<T: Tree> Empty for OrderedMap<T> {
+    fn empty(alloc: Global) -> OrderedMap<T> {
+        IndexMap::with_hasher(alloc, NameHasher::new())
     }
+}
 
-    fn is_left_out(&self) -> bool {
-        self.is_empty()
+impl<T: Documented, H: BuildHasher + Drop> Documented for IndexMap<String, T, H> {
+    ghost kind = { ordered_map_of T.kind };
+
+    ghost doc = { ordered_map_of_docs T.doc };
+}
+
+/// An object, in the order of the names. Fails also where memory for that order runs out.
+#[tactic(auto, using(crate::proofs::OrderedMaps::by_ordered_maps))]
+impl<T: Emit, H: BuildHasher + Drop> Emit for IndexMap<String, T, H> {
+    fn emit<S: JsonSink>(&self, out: &mut S) -> Result<(), AllocError> {
+        let sorted = sorted_by_name(self)?;
+        out.begin_object()?;
+        for (name, member) in sorted.iter() {
+            out.key(name)?;
+            member.emit(out)?;
+        }
+        out.end_object()
     }
+}
+
+/// The entries of a map in the order of their names. Fails where memory runs out.
+fn sorted_by_name<'a, T: Documented, H: BuildHasher>(
+    map: &'a IndexMap<String, T, H>,
+) -> Result<BTreeMap<&'a str, &'a T>, AllocError>
+    ensures { IfOk result (λ sorted. shown_members T.doc sorted.entries
+        ≡ put_written (entries_of_list (pairs_of T.doc map.now.entries)) no_members) }
+{
+    let mut sorted = BTreeMap::new(*map.allocator());
+    for (key, member) in map.iter() {
+        sorted.insert(key.as_str(), member)?;
+    }
+    Ok(sorted)
 }

@@ -3,12 +3,14 @@ ghost use Rattle.utoipa_base.specs.Kinds.{named, ref_or, reference_object};
 ghost use Rattle.utoipa_base.specs.OfKind.{reference_of_kind, ref_or_of_kind};
 ghost use Rattle.utoipa_base.specs.Refs.{reference_doc, ref_or_doc};
 
+use crate::emit::{Documented, Emit};
+use crate::emit_rows::emit_table;
 use crate::fault::ReadFault;
 use crate::readings::Readings;
-use crate::table::{print_table, read_table_alone, write_table_alone};
+use crate::sink::JsonSink;
+use crate::table::read_table_alone;
 use crate::tree::{Place, Tree};
 use crate::{clone_table_alone, from_fields_alone, row_names, row_values};
-use json::Writer;
 use serde_json::Value;
 use std::alloc::{AllocError, Global};
 
@@ -16,24 +18,8 @@ mod builder;
 
 pub use builder::RefBuilder;
 
-// The rows of a reference, in the order of its member table: mark, member, field.
+// The rows of a reference, in the order of the members' names: mark, member, field.
 macro_rules! ref_rows {
-    ($lines:ident!($($arguments:tt)*)) => {
-        $lines! {
-            $($arguments)*;
-            required "$ref" ref_location,
-            defaulted "description" description,
-            defaulted "summary" summary,
-            optional "readOnly" read_only,
-            optional "writeOnly" write_only,
-            optional "default" default,
-            optional "title" title,
-        }
-    };
-}
-
-// The same, in the order of the members' names.
-macro_rules! ref_rows_by_name {
     ($lines:ident!($($arguments:tt)*)) => {
         $lines! {
             $($arguments)*;
@@ -148,29 +134,11 @@ impl<T> From<Ref> for RefOr<T> {
 /// A Reference Object (OpenAPI 3.1, section 4.8.23).
 #[tactic(auto, using(crate::proofs::Places::places))]
 impl Tree for Ref {
-    ghost kind = { named reference_object };
-
-    ghost doc = { reference_doc };
-
     ghost is_of_kind = { reference_of_kind };
 
     fn read_plain(alloc: Global, tree: &Value, readings: &mut Readings) -> Result<Ref, ReadFault> {
         let fields = read_table_alone(alloc, tree, "Ref", ref_rows!(row_names!()), readings)?;
         Ok(ref_rows!(from_fields_alone!(Ref, fields)))
-    }
-
-    fn to_value(&self, alloc: Global) -> Result<Value, AllocError> {
-        write_table_alone(
-            alloc,
-            ref_rows!(row_names!()),
-            &ref_rows!(row_values!(self)),
-        )
-    }
-
-    fn print(&self, alloc: Global, out: &mut Writer) -> Result<(), AllocError> {
-        let names = ref_rows_by_name!(row_names!());
-        let values = ref_rows_by_name!(row_values!(self));
-        print_table(alloc, out, names, &values, &None)
     }
 
     fn try_clone(&self, alloc: Global) -> Result<Ref, AllocError> {
@@ -181,10 +149,6 @@ impl Tree for Ref {
 /// A reference, or else a value in its place.
 #[tactic(auto, using(crate::proofs::Places::by_places))]
 impl<T: Place> Tree for RefOr<T> {
-    ghost kind = { ref_or T.kind };
-
-    ghost doc = { ref_or_doc T.kind T.doc };
-
     ghost is_of_kind = { ref_or_of_kind T.doc T.kind T.is_of_kind };
 
     fn read_plain(
@@ -195,24 +159,42 @@ impl<T: Place> Tree for RefOr<T> {
         T::read_ref_or(alloc, tree, readings)
     }
 
-    fn to_value(&self, alloc: Global) -> Result<Value, AllocError> {
-        match self {
-            RefOr::Ref(reference) => reference.to_value(alloc),
-            RefOr::T(value) => value.to_value(alloc),
-        }
-    }
-
-    fn print(&self, alloc: Global, out: &mut Writer) -> Result<(), AllocError> {
-        match self {
-            RefOr::Ref(reference) => reference.print(alloc, out),
-            RefOr::T(value) => value.print(alloc, out),
-        }
-    }
-
     fn try_clone(&self, alloc: Global) -> Result<RefOr<T>, AllocError> {
         match self {
             RefOr::Ref(reference) => Ok(RefOr::Ref(reference.try_clone(alloc)?)),
             RefOr::T(value) => Ok(RefOr::T(value.try_clone(alloc)?)),
+        }
+    }
+}
+
+impl Documented for Ref {
+    ghost kind = { named reference_object };
+
+    ghost doc = { reference_doc };
+}
+
+/// A Reference Object.
+impl Emit for Ref {
+    fn emit<S: JsonSink>(&self, out: &mut S) -> Result<(), AllocError> {
+        let names = ref_rows!(row_names!());
+        let fields = ref_rows!(row_values!(self));
+        emit_table(out, names, &fields, &None)
+    }
+}
+
+impl<T: Documented> Documented for RefOr<T> {
+    ghost kind = { ref_or T.kind };
+
+    ghost doc = { ref_or_doc T.kind T.doc };
+}
+
+/// A reference, or else a value in its place.
+#[tactic(auto, using(crate::proofs::Sending::by_places))]
+impl<T: Emit> Emit for RefOr<T> {
+    fn emit<S: JsonSink>(&self, out: &mut S) -> Result<(), AllocError> {
+        match self {
+            RefOr::Ref(reference) => reference.emit(out),
+            RefOr::T(value) => value.emit(out),
         }
     }
 }

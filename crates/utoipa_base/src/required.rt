@@ -1,13 +1,14 @@
-ghost use Rattle.std.specs.Prelude.{refl, false};
+ghost use Rattle.std.specs.Prelude.{false};
 ghost use Rattle.utoipa_base.specs.Kinds.{flag};
 ghost use Rattle.utoipa_base.specs.Flags.{required_doc};
 ghost use Rattle.utoipa_base.specs.OfKind.{required_of_kind};
 
+use crate::emit::{Documented, Emit};
 use crate::fault::ReadFault;
 use crate::readings::Readings;
 use crate::scalar::read_flag;
+use crate::sink::JsonSink;
 use crate::tree::Tree;
-use json::Writer;
 use serde_json::Value;
 use std::alloc::{AllocError, Global};
 
@@ -22,12 +23,8 @@ pub enum Required {
 }
 
 /// True or false.
-#[tactic(auto, using(crate::proofs::ByKind::by_kind, crate::proofs::Places::places, crate::proofs::Tokens::by_tokens))]
+#[tactic(auto, using(crate::proofs::ByKind::by_kind, crate::proofs::Places::places))]
 impl Tree for Required {
-    ghost kind = { flag };
-
-    ghost doc = { required_doc };
-
     ghost is_of_kind = { required_of_kind };
 
     fn read_plain(
@@ -42,21 +39,24 @@ impl Tree for Required {
         }
     }
 
-    fn to_value(&self, _alloc: Global) -> Result<Value, AllocError> {
-        match self {
-            Required::True => Ok(Value::Bool(true)),
-            Required::False => Ok(Value::Bool(false)),
-        }
+    fn try_clone(&self, _alloc: Global) -> Result<Required, AllocError> {
+        Ok(*self)
     }
+}
 
-    fn print(&self, _alloc: Global, out: &mut Writer) -> Result<(), AllocError> {
+impl Documented for Required {
+    ghost kind = { flag };
+
+    ghost doc = { required_doc };
+}
+
+/// True or false.
+#[tactic(auto, using(crate::proofs::Sending::by_sending))]
+impl Emit for Required {
+    fn emit<S: JsonSink>(&self, out: &mut S) -> Result<(), AllocError> {
         match self {
             Required::True => out.boolean(true),
             Required::False => out.boolean(false),
         }
-    }
-
-    fn try_clone(&self, _alloc: Global) -> Result<Required, AllocError> {
-        Ok(*self)
     }
 }

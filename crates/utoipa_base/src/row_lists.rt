@@ -34,7 +34,7 @@ macro_rules! from_fields_alone {
     }};
 }
 
-/// The fields of a value, to be written one after the other.
+/// The fields of a value, to be sent or copied one after the other.
 #[macro_export]
 macro_rules! row_values {
     ($self:expr;) => { () };

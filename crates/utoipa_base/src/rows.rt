@@ -1,9 +1,9 @@
-//! A row of a member table, read and written by its mark.
-ghost use Rattle.std.specs.Prelude.{◌≡◌, IfOk, OnOk, OnErr};
+//! A row of a member table, read by its mark.
+ghost use Rattle.std.specs.Prelude.{◌≡◌, IfOk};
 ghost use Rattle.serde_json.specs.Find.{get};
-ghost use Rattle.serde_json.specs.View.{view, members_view};
+ghost use Rattle.serde_json.specs.View.{view};
 ghost use Rattle.utoipa_base.specs.Kinds.{required, optional, or_null};
-ghost use Rattle.utoipa_base.specs.Fields.{field, present, put_field};
+ghost use Rattle.utoipa_base.specs.Fields.{field, present};
 ghost use Rattle.utoipa_base.specs.Reads.{Reads};
 ghost use Rattle.utoipa_base.specs.Tables.{row};
 ghost use Rattle.utoipa_base.specs.Values.{values_of};
@@ -12,7 +12,7 @@ ghost use Rattle.utoipa_base.specs.Views.{option_of};
 use crate::fault::ReadFault;
 use crate::readings::Readings;
 use crate::tree::Tree;
-use serde_json::{Map, Value, put};
+use serde_json::Value;
 use std::alloc::{AllocError, Global};
 
 /// The value of a required member.
@@ -86,57 +86,6 @@ pub fn row_default<T: Tree>(
     match tree.get(name) {
         Some(member) => Ok(Some(T::read_plain(alloc, member, readings)?)),
         None => Ok(None),
-    }
-}
-
-/// Writes a required member. Fails where memory runs out; then the members are as they were.
-#[tactic(auto, using(crate::proofs::ByRows::by_row))]
-pub fn write_required<T: Tree>(
-    members: &mut Map<String, Value>,
-    alloc: Global,
-    name: &str,
-    value: &T,
-) -> Result<(), AllocError>
-    ensures ok { OnOk result (members_view members.new.entries
-        ≡ put_field (row name.now required T.kind) (T.doc value.now) (members_view members.old.entries)) }
-    ensures err { OnErr result (members.new.entries ≡ members.old.entries) }
-{
-    put(members, alloc, name, value.to_value(alloc)?)
-}
-
-/// Writes an optional member, unless it is none. Fails where memory runs out; then the members are as they were.
-#[tactic(auto, using(crate::proofs::ByRows::by_row))]
-pub fn write_option<T: Tree>(
-    members: &mut Map<String, Value>,
-    alloc: Global,
-    name: &str,
-    value: &Option<T>,
-) -> Result<(), AllocError>
-    ensures ok { OnOk result (members_view members.new.entries
-        ≡ put_field (row name.now optional T.kind) (option_of T.doc value.now) (members_view members.old.entries)) }
-    ensures err { OnErr result (members.new.entries ≡ members.old.entries) }
-{
-    match value {
-        Some(value) => put(members, alloc, name, value.to_value(alloc)?),
-        None => Ok(()),
-    }
-}
-
-/// Writes an optional member, as null where it is none. Fails where memory runs out; then the members are as they were.
-#[tactic(auto, using(crate::proofs::ByRows::by_row, crate::proofs::ByKind::by_kind))]
-pub fn write_or_null<T: Tree>(
-    members: &mut Map<String, Value>,
-    alloc: Global,
-    name: &str,
-    value: &Option<T>,
-) -> Result<(), AllocError>
-    ensures ok { OnOk result (members_view members.new.entries
-        ≡ put_field (row name.now or_null T.kind) (option_of T.doc value.now) (members_view members.old.entries)) }
-    ensures err { OnErr result (members.new.entries ≡ members.old.entries) }
-{
-    match value {
-        Some(value) => put(members, alloc, name, value.to_value(alloc)?),
-        None => put(members, alloc, name, Value::Null),
     }
 }
 

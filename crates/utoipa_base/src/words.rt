@@ -3,18 +3,18 @@ ghost use Rattle.std.specs.Prelude.{◌≡◌, ◌↔◌, ℕ, List, None, Some,
 ghost use Rattle.serde_json.specs.Find.{as_str};
 ghost use Rattle.serde_json.specs.View.{view};
 ghost use Rattle.utoipa_base.specs.Docs.{word_doc};
+ghost use Rattle.utoipa_base.specs.Events.{events};
 ghost use Rattle.utoipa_base.specs.Faults.{Refuses};
 ghost use Rattle.utoipa_base.specs.Kinds.{Vocabulary, word_of};
-ghost use Rattle.utoipa_base.specs.Printed.{Prints};
 ghost use Rattle.utoipa_base.specs.Reading.{read};
 ghost use Rattle.utoipa_base.specs.Vocabularies.{with_text};
 ghost use Rattle.utoipa_base.specs.Words.{words, is_word};
 ghost use Rattle.utoipa_base.specs.Writing.{write};
 
 use crate::fault::ReadFault;
-use json::Writer;
+use crate::sink::JsonSink;
 use serde_json::Value;
-use std::alloc::{AllocError, Global};
+use std::alloc::AllocError;
 
 /// A type whose values are the words of a vocabulary, each by its text.
 pub trait Word: Drop {
@@ -64,18 +64,10 @@ pub fn read_word<W: Word>(tree: &Value, name: &'static str) -> Result<W, ReadFau
     }
 }
 
-/// The word of a value, as a tree. Fails where memory runs out.
-#[tactic(auto, using(crate::proofs::ByWords::by_words))]
-pub fn write_word<W: Word>(alloc: Global, word: &W) -> Result<Value, AllocError>
-    ensures { IfOk result (λ v. view v ≡ write (word_doc (W.spelling word.now))) }
-{
-    Value::try_from_str(alloc, word.as_text())
-}
-
-/// Prints the word of a value. Fails where memory runs out.
-#[tactic(auto, using(crate::proofs::Tokens::by_tokens))]
-pub fn print_word<W: Word>(out: &mut Writer, word: &W) -> Result<(), AllocError>
-    ensures { OnOk result (Prints (write (word_doc (W.spelling word.now))) out.old out.new) }
+/// Sends the word of a value. Fails where the sink does.
+#[tactic(auto, using(crate::proofs::Sending::by_sending))]
+pub fn emit_word<W: Word, S: JsonSink>(out: &mut S, word: &W) -> Result<(), AllocError>
+    ensures { OnOk result (S.adds out.old (events (write (word_doc (W.spelling word.now)))) out.new) }
 {
     out.string(word.as_text())
 }

@@ -1,10 +1,10 @@
 // Extensions as members of an object's tree.
 ghost use Rattle.std.specs.Prelude.{◌≡◌, true, option_map, IfOk, string_bytes};
-ghost use Rattle.serde_json.specs.View.{view, members_view};
-ghost use Rattle.utoipa_base.specs.Extensions.{extensions_view, is_extension, extension_name, extensions_at, members_or_none};
+ghost use Rattle.serde_json.specs.View.{view};
+ghost use Rattle.utoipa_base.specs.Extensions.{extensions_view, is_extension, extension_name, extensions_at};
 
-use crate::extensions::{Extensions, copied_members};
-use serde_json::{Map, Value};
+use crate::extensions::Extensions;
+use serde_json::Value;
 use std::alloc::{AllocError, Global};
 use std::collections::BTreeMap;
 
@@ -49,21 +49,6 @@ pub fn read_extensions(alloc: Global, tree: &Value) -> Result<Option<Extensions>
         return Ok(None);
     }
     Ok(Some(Extensions { entries }))
-}
-
-/// The members that extensions are written as, over which an object's other members are then put.
-/// Fails where memory runs out.
-pub fn written_extensions(
-    alloc: Global,
-    extensions: &Option<Extensions>,
-) -> Result<Map<String, Value>, AllocError>
-    ensures { IfOk result (λ m. members_view m.entries
-        ≡ members_or_none (option_map extensions_view extensions.now)) }
-{
-    match extensions {
-        Some(all) => copied_members(alloc, all.as_map()),
-        None => Ok(Map::new(alloc)),
-    }
 }
 
 /// Equal extensions, where there are any. Fails where memory runs out.

@@ -5,4 +5,4 @@ use Rattle.utoipa_base.specs.WellFormed.{entries_have_fraction}
 use Rattle.utoipa_base.proofs.compare.BTreeMapStringSame.has_fraction.Given as goal
 
 abbrev pub invariant-loop-member : goal.invariant-loop-member
-invariant-loop-member g l = entries_have_fraction (entries_of_list (pairs_of g.T.Tree.doc l.initial.member-iterator)) ≡ entries_have_fraction (entries_of_list (pairs_of g.T.Tree.doc l.member-iterator))
+invariant-loop-member g l = entries_have_fraction (entries_of_list (pairs_of g.T.Documented.doc l.initial.member-iterator)) ≡ entries_have_fraction (entries_of_list (pairs_of g.T.Documented.doc l.member-iterator))

@@ -6,7 +6,7 @@ use Rattle.utoipa_base.proofs.compare.BTreeMapStringSame.same.Goals as goal
 
 pub loop-name-preserved : goal.loop-name-preserved
 loop-name-preserved g c =
-    let f = g.T.Tree.doc in
+    let f = g.T.Documented.doc in
     let l = c.loop-name in
     let x = c.in-Some.member.now in
     let y = c.in-Some-next.other.now in

@@ -6,7 +6,7 @@ use Rattle.utoipa_base.proofs.compare.BTreeMapStringSame.same.Given as goal
 
 abbrev pub invariant-loop-name : goal.invariant-loop-name
 invariant-loop-name g l = record {
-  left_whole : entries_have_fraction (entries_of_list (pairs_of g.T.Tree.doc l.name-iterator)) ≡ false;
-  right_whole : entries_have_fraction (entries_of_list (pairs_of g.T.Tree.doc l.others)) ≡ false;
-  same : (entries_of_list (pairs_of g.T.Tree.doc l.initial.name-iterator) ≡ entries_of_list (pairs_of g.T.Tree.doc l.initial.others)) ↔ (entries_of_list (pairs_of g.T.Tree.doc l.name-iterator) ≡ entries_of_list (pairs_of g.T.Tree.doc l.others));
+  left_whole : entries_have_fraction (entries_of_list (pairs_of g.T.Documented.doc l.name-iterator)) ≡ false;
+  right_whole : entries_have_fraction (entries_of_list (pairs_of g.T.Documented.doc l.others)) ≡ false;
+  same : (entries_of_list (pairs_of g.T.Documented.doc l.initial.name-iterator) ≡ entries_of_list (pairs_of g.T.Documented.doc l.initial.others)) ↔ (entries_of_list (pairs_of g.T.Documented.doc l.name-iterator) ≡ entries_of_list (pairs_of g.T.Documented.doc l.others));
 }

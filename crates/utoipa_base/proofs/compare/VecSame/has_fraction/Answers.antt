@@ -9,19 +9,19 @@ pub returns-then-has_fraction : goal.returns-then-has_fraction
 returns-then-has_fraction g c =
     let xs = c.deref-item-items.result.now in
     let within : c.loop-item.item-index < length xs = omega arith in
-    let here = fraction_split g.T.Tree.doc xs c.loop-item.item-index c.item-item.result within c.item-item.is in
+    let here = fraction_split g.T.Documented.doc xs c.loop-item.item-index c.item-item.result within c.item-item.is in
     grind (arith, by_docs, here, c.loop-item.invariant)
 
 pub loop-item-preserved : goal.loop-item-preserved
 loop-item-preserved g c =
     let xs = c.deref-item-items.result.now in
     let within : c.loop-item.item-index < length xs = omega arith in
-    let here = fraction_split g.T.Tree.doc xs c.loop-item.item-index c.item-item.result within c.item-item.is in
+    let here = fraction_split g.T.Documented.doc xs c.loop-item.item-index c.item-item.result within c.item-item.is in
     grind (arith, by_docs, here, c.loop-item.invariant)
 
 pub returns : goal.returns
 returns g c =
-    let f = g.T.Tree.doc in
+    let f = g.T.Documented.doc in
     let xs = c.deref-item-items.result.now in
     let none : drop c.loop-item.item-index xs ≡ [] = drop_all c.loop-item.item-index xs c.loop-item-test.false in
     let all : docs_have_fraction (docs_of (map f xs)) ≡ docs_have_fraction (docs_of (map f c.args.self.now.items)) = ap (λ ys. docs_have_fraction (docs_of (map f ys))) c.deref-item-items.ensures.value in

@@ -9,11 +9,11 @@ same-requires-clause-whole g c =
     let l = c.loop-item in
     let xs = c.deref-item-items.result.now in
     let within : l.item-index < length xs = omega arith in
-    item_whole _ _ _ (docs_split g.T.Tree.doc xs l.item-index c.item-item.result within c.item-item.is) l.invariant.left_whole
+    item_whole _ _ _ (docs_split g.T.Documented.doc xs l.item-index c.item-item.result within c.item-item.is) l.invariant.left_whole
 
 pub loop-item-preserved : goal.loop-item-preserved
 loop-item-preserved g c =
-    let f = g.T.Tree.doc in
+    let f = g.T.Documented.doc in
     let l = c.loop-item in
     let xs = c.deref-item-items.result.now in
     let x = c.item-item.result in

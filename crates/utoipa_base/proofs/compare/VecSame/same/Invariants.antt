@@ -6,7 +6,7 @@ use Rattle.utoipa_base.proofs.compare.VecSame.same.Given as goal
 
 abbrev pub invariant-loop-item : goal.invariant-loop-item
 invariant-loop-item g l = record {
-  left_whole : docs_have_fraction (docs_of (map g.T.Tree.doc (drop l.item-index l.item-items))) ≡ false;
-  right_whole : docs_have_fraction (docs_of (map g.T.Tree.doc (iter_rest l.others))) ≡ false;
-  same : (docs_of (map g.T.Tree.doc l.item-items) ≡ docs_of (map g.T.Tree.doc (iter_rest l.initial.others))) ↔ (docs_of (map g.T.Tree.doc (drop l.item-index l.item-items)) ≡ docs_of (map g.T.Tree.doc (iter_rest l.others)));
+  left_whole : docs_have_fraction (docs_of (map g.T.Documented.doc (drop l.item-index l.item-items))) ≡ false;
+  right_whole : docs_have_fraction (docs_of (map g.T.Documented.doc (iter_rest l.others))) ≡ false;
+  same : (docs_of (map g.T.Documented.doc l.item-items) ≡ docs_of (map g.T.Documented.doc (iter_rest l.initial.others))) ↔ (docs_of (map g.T.Documented.doc (drop l.item-index l.item-items)) ≡ docs_of (map g.T.Documented.doc (iter_rest l.others)));
 }

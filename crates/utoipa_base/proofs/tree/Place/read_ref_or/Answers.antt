@@ -16,16 +16,16 @@ returns-after-is_schema g c =
     let old = c.args.readings.now in
     let new = c.if-is_schema.readings in
     let r = reference_doc c.in-Ok.reference in
-    let counted : (old ≤ new) × (new ≤ old + 1) × (new < 18446744073709551615 → old + schema_count (ref_doc g.Self.Tree.kind r) ≤ new) =
+    let counted : (old ≤ new) × (new ≤ old + 1) × (new < 18446744073709551615 → old + schema_count (ref_doc g.Self.Documented.kind r) ≤ new) =
     elim c.if-is_schema.branch [
       | then-is_schema w ↦
           let now = w.tick.new.self in (
             omega (arith, ticked_grows old now _ w.tick.ensures, w.readings-is),
             omega (arith, ticked_most old now _ w.tick.ensures, w.readings-is),
-            λ below. omega (arith, reference_counted g.Self.Tree.kind r, ticked_least old now _ w.tick.ensures (omega (arith, below, w.readings-is)), w.readings-is),
+            λ below. omega (arith, reference_counted g.Self.Documented.kind r, ticked_least old now _ w.tick.ensures (omega (arith, below, w.readings-is)), w.readings-is),
           )
       | else-is_schema w ↦
-          let none = reference_uncounted g.Self.Tree.kind r (sym c.is_schema.ensures ∙ w.if-is_schema.false) in
+          let none = reference_uncounted g.Self.Documented.kind r (sym c.is_schema.ensures ∙ w.if-is_schema.false) in
           (omega (arith, w.readings-is), omega (arith, w.readings-is), λ below. omega (arith, none, w.readings-is))
     ] in
     record {
@@ -50,5 +50,5 @@ returns-in_ok-read_plain-in-Err g c =
       err = tt;
       grows = own.grows;
       at_most = own.at_most;
-      at_least = λ below. omega (arith, own.at_least below, own_places (g.Self.Tree.doc c.in_ok-read_plain-in-Err.field-0));
+      at_least = λ below. omega (arith, own.at_least below, own_places (g.Self.Documented.doc c.in_ok-read_plain-in-Err.field-0));
     }
