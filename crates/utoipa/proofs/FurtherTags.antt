@@ -50,7 +50,19 @@ pub tags_changed : (change : Doc → Doc) (o new : Operation) (list : Vec (Strin
     → option_of (list_of_docs text_of) (Some list) ≡ change (option_of (list_of_docs text_of) (out-Operation o).tags) → operation_doc new ≡ in_field (codes "tags") change (operation_doc o)
 tags_changed change o new list is changed =
     operation_is new ∙ ap (operation_layer path_item_doc) is
-    ∙ same_table operation_object _ _ _ _ (same_field _ _ _ _ changed refl) refl
+    ∙ same_table operation_object _ _ _ _
+    (same_field _ _ _ _ refl
+    (same_field _ _ _ _ refl
+    (same_field _ _ _ _ refl
+    (same_field _ _ _ _ refl
+    (same_field _ _ _ _ refl
+    (same_field _ _ _ _ refl
+    (same_field _ _ _ _ refl
+    (same_field _ _ _ _ refl
+    (same_field _ _ _ _ refl
+    (same_field _ _ _ _ refl
+    (same_field _ _ _ _ refl
+    (same_field _ _ _ _ changed refl)))))))))))) refl
     ∙ sym (ap (in_field (codes "tags") change) (operation_is o))
 
 -- ---- operations by their methods

@@ -1,5 +1,6 @@
 pub mod AnyFraction
 pub mod Bracketed
+pub mod MadeBeside
 pub mod MergedDocuments
 pub mod Mounted
 pub mod PartsOfDocuments
@@ -7,3 +8,4 @@ pub mod PrettyTexts
 pub mod TextReadings
 pub mod FurtherTags
 pub mod NothingAdded
+pub mod TheTheorem

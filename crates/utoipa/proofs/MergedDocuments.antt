@@ -1,5 +1,5 @@
 -- Documents that are merged by their parts.
-use Rattle.std.proofs.Common.{◌≡◌, inl, inr, List, [], ◌∷◌, Bool, true, false, ◌||◌, Option, None, Some, map, Contains, refl, sym, ap, ◌∙◌, subst, Global}
+use Rattle.std.proofs.Common.{◌≡◌, inl, inr, List, [], ◌∷◌, Bool, true, false, ◌||◌, Option, None, Some, Result, Ok, IfOk, map, Contains, refl, sym, ap, ◌∙◌, subst, Global}
 use Rattle.std.specs.Prelude.{Vec}
 use Rattle.std.specs.List.{list_any}
 use Rattle.std.proofs.lemmas.List.Elements.{Contains-append_cases}
@@ -17,12 +17,14 @@ use Rattle.utoipa_merging.specs.Merged.{IsListMerged, ArePathsMerged, AreCompone
 use Rattle.utoipa_merging.specs.Slots.{Joined, servers_joined, security_joined, tags_joined, joined_of, items_in, paths_of, components_of, fixed_members, parts}
 use Rattle.utoipa_merging.proofs.JoinedLists.{all_in, not_in_none, in_head, in_tail, in_cases, joined_is_entry}
 use Rattle.utoipa_merging.proofs.MapViews.{items_in-list}
+use Rattle.utoipa_merging_parts.specs.Lists.{IsTaken}
 use Rattle.utoipa_paths.specs.Paths.{paths_doc}
 use Rattle.utoipa_security.specs.declared.security.requirement.SecurityRequirement.{SecurityRequirement}
 use Rattle.utoipa_security.proofs.Requirement.{requirement_whole}
 use Rattle.utoipa.specs.Merging.{lists_have_fraction}
 use Rattle.utoipa.specs.OpenApi.{openapi_doc, openapi_of_kind}
 use Rattle.utoipa.specs.declared.document.OpenApi.{OpenApi}
+use Rattle.utoipa.proofs.MadeBeside.{made_is}
 
 -- a list that may be absent, as a document
 abbrev pub list_doc_of : {X : Type 0} → (X → Doc) → Option (Vec X Global) → Doc
@@ -64,6 +66,14 @@ merged_by_parts first others d fixed m = record {
 
 pub in_key_order : (d : OpenApi) → ArePathsInOrder (paths_doc d.paths) → AreComponentsInOrder d.components → IsInKeyOrder (openapi_doc d)
 in_key_order d paths components = record { paths = paths; components = components }
+
+-- a list that took what there was room for is merged
+pub list_taken : {X E : Type 0} (f : X → Doc) (own later given room new taken : Option (Vec X Global)) (r : Result (Option (Vec X Global)) E)
+    → IfOk r (λ n. (t : Option (Vec X Global)) → IsTaken room n t → IsListMerged (list_doc_of f own ∷ list_doc_of f later ∷ []) (list_doc_of f t))
+    → later ≡ given → r ≡ Ok new → IsTaken room new taken → IsListMerged (list_doc_of f own ∷ list_doc_of f given ∷ []) (list_doc_of f taken)
+list_taken {X} f own later given room new taken r h from is took =
+    subst (λ l. IsListMerged (list_doc_of f own ∷ list_doc_of f l ∷ []) (list_doc_of f taken)) from
+    (made_is (λ n. (t : Option (Vec X Global)) → IsTaken room n t → IsListMerged (list_doc_of f own ∷ list_doc_of f later ∷ []) (list_doc_of f t)) r new h is taken took)
 
 -- ---- fractions in lists
 

@@ -1,5 +1,5 @@
 -- Path items that are put where a composer of paths answers.
-use Rattle.std.proofs.Common.{◌≡◌, ℕ, suc, length, List, [], ◌∷◌, ◌++◌, Bool, true, false, cond, Option, Some, None, Contains, map, option_map, refl, sym, ap, ◌∙◌, subst, String, Global, string_bytes, string_cmp}
+use Rattle.std.proofs.Common.{◌≡◌, ℕ, suc, length, List, [], ◌∷◌, ◌++◌, Bool, true, false, ◌||◌, ◌↔◌, Result, Ok, IsErrOf, cond, Option, Some, None, Contains, map, option_map, refl, sym, ap, ◌∙◌, subst, String, Global, string_bytes, string_cmp}
 use Rattle.std.specs.Prelude.{Err}
 use Rattle.std.specs.Fn.{FnReturnsAtPair}
 use Rattle.std.specs.declared.alloc.AllocError.{AllocError}
@@ -26,10 +26,14 @@ use Rattle.utoipa_path.specs.declared.types.PathItem.{PathItem}
 use Rattle.utoipa_paths.specs.Items.{ItemsByPath, AreItemsInOrder}
 use Rattle.utoipa_paths.specs.Paths.{IsEmptyPaths}
 use Rattle.utoipa_paths.specs.declared.paths.Paths.{Paths}
-use Rattle.utoipa_paths.proofs.PathsViews.{paths_in_order, none_ordered}
+use Rattle.utoipa_paths.proofs.PathsViews.{paths_in_order, items_in_order, none_ordered}
+use Rattle.utoipa.specs.Merging.{lists_have_fraction}
 use Rattle.utoipa.specs.OpenApi.{openapi_doc}
 use Rattle.utoipa.specs.declared.document.OpenApi.{OpenApi}
-use Rattle.utoipa.specs.Nesting.{Composes, MayAnswer, MayAnswerEach, MayRefuseOne, AreMounted}
+use Rattle.utoipa.specs.Nesting.{Composes, MayAnswer, MayAnswerEach, MayRefuseOne, AreMounted, ArePathsMounted, with_items}
+use Rattle.utoipa.specs.declared.merging.MergeFault.{MergeFault}
+use Rattle.utoipa.specs.declared.merging.MergeFault.TheVariants.{Fraction}
+use Rattle.utoipa.proofs.MergedDocuments.{or_first, or_second}
 
 -- what stands at a path, over what stood there, once those to come were put
 abbrev with_answered : (answers : List (List ℕ)) (coming : List (List ℕ × Doc)) (path : List ℕ) → Option Doc → Option Doc
@@ -109,10 +113,6 @@ each_answered g composer base [] (a ∷ answers) h = absurd h
 each_answered g composer base (p ∷ ps) [] h = absurd h
 each_answered g composer base (p ∷ ps) (a ∷ answers) h = ap suc (each_answered g composer base ps answers h.1)
 
--- the document with these items at its paths
-abbrev pub with_items : OpenApi → ItemsByPath → OpenApi
-with_items d items = record d { paths = record d.paths { paths = items } }
-
 -- a document is nested where its items were put and the rest was merged
 pub nested_by_parts : (answers : List (List ℕ)) (own other : OpenApi) (items : ItemsByPath) (none : Paths) (d : OpenApi) → length answers ≡ length (entries_in (paths_of (openapi_doc other)))
     → AreMounted answers (map_of_docs path_item_doc other.paths.paths) (map_of_docs path_item_doc own.paths.paths) (map_of_docs path_item_doc items) → IsEmptyPaths none
@@ -133,6 +133,34 @@ mounted_in_order own items h in_order = record { paths = paths_in_order (record 
 
 pub rest_in_order : (other : OpenApi) (none : Paths) → IsEmptyPaths none → IsInKeyOrder (openapi_doc other) → IsInKeyOrder (openapi_doc (record other { paths = none }))
 rest_in_order other none empty h = record { paths = none_ordered none empty; components = h.components }
+
+-- a document is nested where its paths were put, and what was left of it was merged
+pub nested_where_mounted : (answers : List (List ℕ)) (own own_now other other_now d : OpenApi) → length answers ≡ length (entries_in (paths_of (openapi_doc other)))
+    → ArePathsMounted answers own own_now other other_now → IsMerged (openapi_doc own_now ∷ openapi_doc other_now ∷ []) (openapi_doc d) → IsNested answers (openapi_doc own) (openapi_doc other) (openapi_doc d)
+nested_where_mounted answers own own_now other other_now d answered m merged =
+    nested_by_parts answers own other m.items m.none d answered m.mounted m.empty
+    (subst (λ o. IsMerged (openapi_doc (with_items own m.items) ∷ openapi_doc o ∷ []) (openapi_doc d)) m.taken (subst (λ o. IsMerged (openapi_doc o ∷ openapi_doc other_now ∷ []) (openapi_doc d)) m.put merged))
+
+-- both are in order where they were, and so is what was put
+pub in_order_where_mounted : (answers : List (List ℕ)) (own own_now other other_now : OpenApi) → ArePathsMounted answers own own_now other other_now
+    → (AreItemsInOrder own.paths.paths → AreItemsInOrder other.paths.paths → AreItemsInOrder own_now.paths.paths) → IsInKeyOrder (openapi_doc own) → IsInKeyOrder (openapi_doc other)
+    → IsInKeyOrder (openapi_doc own_now) × IsInKeyOrder (openapi_doc other_now)
+in_order_where_mounted answers own own_now other other_now m put h k =
+    let items = subst (λ o. AreItemsInOrder o.paths.paths) m.put (put (items_in_order own.paths h.paths) (items_in_order other.paths k.paths)) in
+    (subst (λ o. IsInKeyOrder (openapi_doc o)) (sym m.put) (mounted_in_order own m.items h items), subst (λ o. IsInKeyOrder (openapi_doc o)) (sym m.taken) (rest_in_order other m.none m.empty k))
+
+-- no list holds a fraction where this was no fault
+pub no_fraction : {X : Type 0} (r : Result X MergeFault) (v : X) (b : Bool) → IsErrOf r Fraction ↔ (b ≡ true) → r ≡ Ok v → b ≡ false
+no_fraction r v false h is = refl
+no_fraction r v true h is = let refused = h.1 refl in cc
+
+-- nor does one of these documents then
+pub plain_where_mounted : (answers : List (List ℕ)) (own own_now other other_now : OpenApi) → ArePathsMounted answers own own_now other other_now
+    → (lists_have_fraction (openapi_doc own) || lists_have_fraction (openapi_doc other)) ≡ false → (lists_have_fraction (openapi_doc own_now) ≡ false) × (lists_have_fraction (openapi_doc other_now) ≡ false)
+plain_where_mounted answers own own_now other other_now m h = (
+  subst (λ o. lists_have_fraction (openapi_doc o) ≡ false) (sym m.put) (or_first (lists_have_fraction (openapi_doc own)) (lists_have_fraction (openapi_doc other)) h),
+  subst (λ o. lists_have_fraction (openapi_doc o) ≡ false) (sym m.taken) (or_second (lists_have_fraction (openapi_doc own)) (lists_have_fraction (openapi_doc other)) h),
+)
 
 -- ---- paths behind a base
 

@@ -1,5 +1,5 @@
 -- The parts of documents, taken one after the other and merged.
-use Rattle.std.proofs.Common.{◌≡◌, ◌<◌, List, [], ◌∷◌, ◌++◌, length, Option, false, map, All, sym, ap, ◌∙◌, subst, arith, Global}
+use Rattle.std.proofs.Common.{◌≡◌, ◌<◌, List, [], ◌∷◌, ◌++◌, length, Option, Result, Ok, OnOk, false, map, All, sym, ap, ◌∙◌, subst, arith, Global}
 use Rattle.std.specs.Prelude.{Vec}
 use Rattle.std.specs.List.{AllByRecursion}
 use Rattle.std.proofs.lemmas.List.{map-append}
@@ -19,11 +19,18 @@ use Rattle.utoipa.specs.OpenApi.{openapi_doc}
 use Rattle.utoipa.specs.declared.bracketing.Parts.{Parts}
 use Rattle.utoipa.specs.declared.document.OpenApi.{OpenApi}
 use Rattle.utoipa.proofs.Bracketed.{any_fraction}
+use Rattle.utoipa.proofs.MadeBeside.{holds_where_made}
 use Rattle.utoipa.proofs.MergedDocuments.{list_doc_of, map-map, or_first, or_second, requirements_plain}
 
 -- one more part
-pub one_taken : {X : Type 0} (field : OpenApi → X) (documents : List OpenApi) (d : OpenApi) (old new : List X) → new ≡ old ++ field d ∷ [] → old ≡ map field documents → new ≡ map field (documents ++ d ∷ [])
-one_taken field documents d old new is before = is ∙ ap (λ l. l ++ field d ∷ []) before ∙ sym (map-append field documents (d ∷ []))
+pub one_taken : {X : Type 0} (field : OpenApi → X) (documents : List OpenApi) (d : OpenApi) (taken : X) (old new : List X) → new ≡ old ++ taken ∷ [] → taken ≡ field d → old ≡ map field documents → new ≡ map field (documents ++ d ∷ [])
+one_taken field documents d taken old new is from before =
+    is ∙ ap (λ x. old ++ x ∷ []) from ∙ ap (λ l. l ++ field d ∷ []) before ∙ sym (map-append field documents (d ∷ []))
+
+-- the parts of all were taken, and kept beside
+pub all_taken : {X E : Type 0} (first : OpenApi) (others : List OpenApi) (none taken parts : Parts) (r : Result X E) (v : X) → OnOk r (ArePartsOf [] none → ArePartsOf (first ∷ others) taken) → r ≡ Ok v → parts ≡ taken → ArePartsOf [] none → ArePartsOf (first ∷ others) parts
+all_taken first others none taken parts r v h is kept empty =
+    subst (ArePartsOf (first ∷ others)) (sym kept) (holds_where_made (ArePartsOf [] none → ArePartsOf (first ∷ others) taken) r v h is empty)
 
 pub all_requirements_plain : (ls : List (Option (Vec SecurityRequirement Global))) → All (λ l. IsPlain (list_doc_of requirement_doc l)) ls
 all_requirements_plain ls = λ k l below. requirements_plain _

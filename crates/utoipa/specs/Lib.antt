@@ -3,3 +3,4 @@ pub mod Nesting
 pub mod OpenApi
 pub mod Texts
 pub mod Tags
+pub mod MainTheorem

@@ -6,7 +6,8 @@ use Rattle.utoipa_base.specs.Views.{list_of_docs, option_of}
 use Rattle.utoipa_base.specs.WellFormed.{has_fraction, IsPlain}
 use Rattle.utoipa_leaf.specs.Server.{server_doc}
 use Rattle.utoipa_leaf.specs.Tag.{tag_doc}
-use Rattle.utoipa_merging.specs.Slots.{servers_joined, tags_joined, joined_of}
+use Rattle.utoipa_merging.specs.Slots.{servers_joined, tags_joined, joined_of, fixed_members, parts}
+use Rattle.utoipa.specs.OpenApi.{openapi_doc}
 use Rattle.utoipa.specs.declared.bracketing.Bracketing.{Bracketing}
 use Rattle.utoipa.specs.declared.bracketing.Parts.{Parts}
 use Rattle.utoipa.specs.declared.bracketing.Bracketing.TheVariants.{Leaf, Join'}
@@ -36,6 +37,10 @@ pub record ArePartsOf (documents : List OpenApi) (p : Parts) : Type 0 where
   pub tags : p.tags.items ≡ map (λ d. d.tags) documents
   pub paths : p.paths.items ≡ map (λ d. d.paths) documents
   pub components : p.components.items ≡ map (λ d. d.components) documents
+
+-- all else than the parts is the same
+abbrev pub IsSameButParts : OpenApi → OpenApi → Type 0
+IsSameButParts d e = parts fixed_members (openapi_doc e) ≡ parts fixed_members (openapi_doc d)
 
 -- no server and no tag holds a fraction
 pub record ArePartsPlain (p : Parts) : Type 0 where

@@ -3,15 +3,16 @@ ghost use Rattle.std.specs.Prelude.{◌≡◌, ◌∷◌, ◌++◌, ◌↔◌, [
 ghost use Rattle.std.specs.List.{AllByRecursion, list_any};
 ghost use Rattle.std.specs.Vec.Iter.{into_iter_items};
 ghost use Rattle.utoipa_merging.specs.Merged.{IsInKeyOrder, IsMerged};
-ghost use Rattle.utoipa_merging.specs.Slots.{fixed_members, parts};
-ghost use Rattle.utoipa.specs.Merging.{lists_have_fraction, any_list_has_fraction, leaves_of, ArePartsOf, ArePartsPlain};
+ghost use Rattle.utoipa.specs.Merging.{lists_have_fraction, any_list_has_fraction, leaves_of, ArePartsOf, IsSameButParts, ArePartsPlain};
 ghost use Rattle.utoipa.specs.OpenApi.{openapi_doc};
 ghost use Rattle.utoipa.specs.declared.merging.MergeFault.TheVariants.{Memory, Fraction, Composer};
 
 use crate::document::OpenApi;
-use crate::merging::MergeFault;
+use crate::merging::{MergeFault, merged_with, or_memory};
 use std::alloc::{AllocError, Global};
+use std::mem;
 use std::vec::IntoIter;
+use utoipa_base::{beside, set};
 use utoipa_components::{Components, merge_components};
 use utoipa_leaf::server::Server;
 use utoipa_leaf::tag::Tag;
@@ -47,7 +48,7 @@ pub fn merge_tree(alloc: Global, bracketing: Bracketing) -> Result<OpenApi, Merg
             if leaf_has_fraction(&joined) {
                 return Err(MergeFault::Fraction);
             }
-            Ok(merge_pairs(alloc, joined)?)
+            or_memory(merge_pairs(alloc, joined))
         }
     }
 }
@@ -70,9 +71,10 @@ fn merge_pairs(alloc: Global, bracketing: Bracketing) -> Result<OpenApi, AllocEr
     match bracketing {
         Bracketing::Leaf(document) => Ok(document),
         Bracketing::Join(left, right) => {
-            let mut merged = merge_pairs(alloc, Box::into_inner(left))?;
-            merged.merge_plain(alloc, merge_pairs(alloc, Box::into_inner(right))?)?;
-            Ok(merged)
+            let merged = merge_pairs(alloc, Box::into_inner(left))?;
+            let later = merge_pairs(alloc, Box::into_inner(right));
+            let (merged, later) = beside(merged, later)?;
+            merged_with(merged, alloc, later)
         }
     }
 }
@@ -115,11 +117,27 @@ fn merge_behind(
     ensures ordered { IfOk result (λ merged. AllByRecursion (λ d. IsInKeyOrder (openapi_doc d)) (first ∷ into_iter_items others) → IsInKeyOrder (openapi_doc merged)) }
 {
     let mut parts = Parts::new(alloc);
-    let fixed = parts.take(alloc, first)?;
-    for document in others {
-        drop(parts.take(alloc, document)?);
-    }
+    let mut fixed = first;
+    let taken = take_parts(&mut parts, alloc, &mut fixed, others);
+    let ((parts, fixed), ()) = beside((parts, fixed), taken)?;
     parts.merged(alloc, fixed)
+}
+
+/// Takes the parts of the first document, of which the rest stays, and those of the others. Fails where memory runs out.
+fn take_parts(
+    parts: &mut Parts,
+    alloc: Global,
+    first: &mut OpenApi,
+    others: IntoIter<OpenApi>,
+) -> Result<(), AllocError>
+    ensures parts { OnOk result (ArePartsOf [] parts.old → ArePartsOf (first.old ∷ into_iter_items others) parts.new) }
+    ensures fixed { OnOk result (IsSameButParts first.old first.new) }
+{
+    parts.take(alloc, first)?;
+    for document in others {
+        parts.take_whole(alloc, document)?;
+    }
+    Ok(())
 }
 
 /// The parts of documents that are merged, of each document in turn.
@@ -145,42 +163,65 @@ impl Parts {
         }
     }
 
-    /// Takes the parts of one more document, and answers what is left of it.
-    fn take(&mut self, alloc: Global, document: OpenApi) -> Result<OpenApi, AllocError>
-        ensures parts { OnOk result ((documents : List OpenApi) → ArePartsOf documents self.old → ArePartsOf (documents ++ document ∷ []) self.new) }
-        ensures fixed { IfOk result (λ fixed. parts fixed_members (openapi_doc fixed) ≡ parts fixed_members (openapi_doc document)) }
+    /// Takes the parts of one more document out of it. Fails where memory runs out.
+    fn take(&mut self, alloc: Global, document: &mut OpenApi) -> Result<(), AllocError>
+        ensures parts { OnOk result ((documents : List OpenApi) → ArePartsOf documents self.old → ArePartsOf (documents ++ document.old ∷ []) self.new) }
+        ensures fixed { OnOk result (IsSameButParts document.old document.new) }
     {
-        self.servers.push(document.servers)?;
-        self.security.push(document.security)?;
-        self.tags.push(document.tags)?;
-        self.paths.push(document.paths)?;
-        self.components.push(document.components)?;
-        Ok(OpenApi {
-            servers: None,
-            security: None,
-            tags: None,
-            paths: Paths::new(alloc),
-            components: None,
-            ..document
-        })
+        self.servers.push(document.servers.take())?;
+        self.security.push(document.security.take())?;
+        self.tags.push(document.tags.take())?;
+        self.paths
+            .push(mem::replace(&mut document.paths, Paths::new(alloc)))?;
+        self.components.push(document.components.take())?;
+        Ok(())
+    }
+
+    /// Takes the parts of one more document, and gives up the rest. Fails where memory runs out.
+    fn take_whole(&mut self, alloc: Global, document: OpenApi) -> Result<(), AllocError>
+        ensures { OnOk result ((documents : List OpenApi) → ArePartsOf documents self.old → ArePartsOf (documents ++ document ∷ []) self.new) }
+    {
+        let mut document = document;
+        self.take(alloc, &mut document)
     }
 
     /// The document with these parts, merged, and all else of another.
     fn merged(self, alloc: Global, fixed: OpenApi) -> Result<OpenApi, AllocError>
         requires plain { ArePartsPlain self }
         ensures ok { IfOk result (λ merged. (documents : List OpenApi) (d : OpenApi) → ArePartsOf (d ∷ documents) self
-            → parts fixed_members (openapi_doc fixed) ≡ parts fixed_members (openapi_doc d) → IsMerged (map openapi_doc (d ∷ documents)) (openapi_doc merged)) }
+            → IsSameButParts d fixed → IsMerged (map openapi_doc (d ∷ documents)) (openapi_doc merged)) }
         ensures ordered { IfOk result (λ merged. (documents : List OpenApi) → ArePartsOf documents self
             → AllByRecursion (λ e. IsInKeyOrder (openapi_doc e)) documents → IsInKeyOrder (openapi_doc merged)) }
     {
-        Ok(OpenApi {
-            servers: join_lists(alloc, self.servers)?,
-            security: join_lists(alloc, self.security)?,
-            tags: join_lists(alloc, self.tags)?,
-            paths: merge_paths(alloc, self.paths)?,
-            components: merge_components(alloc, self.components)?,
-            ..fixed
-        })
+        let mut document = fixed;
+        let put = self.put_merged(alloc, &mut document);
+        let (document, ()) = beside(document, put)?;
+        Ok(document)
+    }
+
+    /// Puts these parts, merged, into a document in place of its own. Fails where memory runs out, and then some were put.
+    fn put_merged(self, alloc: Global, document: &mut OpenApi) -> Result<(), AllocError>
+        requires plain { ArePartsPlain self }
+        ensures ok { OnOk result ((documents : List OpenApi) (d : OpenApi) → ArePartsOf (d ∷ documents) self → IsSameButParts d document.old
+            → IsMerged (map openapi_doc (d ∷ documents)) (openapi_doc document.new)) }
+        ensures ordered { OnOk result ((documents : List OpenApi) → ArePartsOf documents self
+            → AllByRecursion (λ e. IsInKeyOrder (openapi_doc e)) documents → IsInKeyOrder (openapi_doc document.new)) }
+    {
+        let Parts {
+            servers,
+            security,
+            tags,
+            paths,
+            components,
+        } = self;
+        set(&mut document.servers, join_lists(alloc, servers))?;
+        set(&mut document.security, join_lists(alloc, security))?;
+        set(&mut document.tags, join_lists(alloc, tags))?;
+        set(&mut document.paths, merge_paths(alloc, paths))?;
+        set(
+            &mut document.components,
+            merge_components(alloc, components),
+        )
     }
 }
 

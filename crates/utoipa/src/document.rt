@@ -1,14 +1,12 @@
 //! The document that describes an API.
-ghost use Rattle.std.specs.Prelude.{refl};
 ghost use Rattle.utoipa_base.specs.Kinds.{named, open_api_object};
 
 use crate::builder::OpenApiBuilder;
-use json::Writer;
 use serde_json::Value;
 use std::alloc::{AllocError, Global};
 use utoipa_base::{
-    Extensions, ReadFault, Readings, Tree, clone_table, from_fields, print_table, read_table,
-    row_names, row_values, write_table,
+    Documented, Emit, Extensions, JsonSink, ReadFault, Readings, Tree, clone_table, emit_table,
+    from_fields, read_table, row_names, row_values,
 };
 use utoipa_components::Components;
 use utoipa_leaf::external_docs::ExternalDocs;
@@ -19,29 +17,8 @@ use utoipa_leaf::version::OpenApiVersion;
 use utoipa_paths::Paths;
 use utoipa_security::security::SecurityRequirement;
 
-// The rows of a document, in the order of its member table: mark, member, field.
+// The rows of a document, in the order of the members' names: mark, member, field.
 macro_rules! document_rows {
-    ($lines:ident!($($arguments:tt)*)) => {
-        $lines! {
-            $($arguments)*;
-            required "openapi" openapi,
-            required "info" info,
-            optional "servers" servers,
-            required "paths" paths,
-            optional "webhooks" webhooks,
-            optional "components" components,
-            optional "security" security,
-            optional "tags" tags,
-            optional "externalDocs" external_docs,
-            optional "jsonSchemaDialect" json_schema_dialect,
-            defaulted "$schema" schema,
-            optional "$self" self_uri,
-        }
-    };
-}
-
-// The same, in the order of the members' names.
-macro_rules! document_rows_by_name {
     ($lines:ident!($($arguments:tt)*)) => {
         $lines! {
             $($arguments)*;
@@ -125,13 +102,26 @@ impl OpenApi {
     }
 }
 
-/// A document, by its member table.
-impl Tree for OpenApi {
-    ghost use Rattle.utoipa.specs.OpenApi.{openapi_doc, openapi_of_kind};
+impl Documented for OpenApi {
+    ghost use Rattle.utoipa.specs.OpenApi.{openapi_doc};
 
     ghost kind = { named open_api_object };
 
     ghost doc = { openapi_doc };
+}
+
+/// A document, by its member table.
+impl Emit for OpenApi {
+    fn emit<S: JsonSink>(&self, out: &mut S) -> Result<(), AllocError> {
+        let names = document_rows!(row_names!());
+        let values = document_rows!(row_values!(self));
+        emit_table(out, names, &values, &self.extensions)
+    }
+}
+
+/// A document, by its member table.
+impl Tree for OpenApi {
+    ghost use Rattle.utoipa.specs.OpenApi.{openapi_of_kind};
 
     ghost is_of_kind = { openapi_of_kind };
 
@@ -143,18 +133,6 @@ impl Tree for OpenApi {
         let names = document_rows!(row_names!());
         let (fields, extensions) = read_table(alloc, tree, "OpenApi", names, readings)?;
         Ok(document_rows!(from_fields!(OpenApi, fields, extensions)))
-    }
-
-    fn to_value(&self, alloc: Global) -> Result<Value, AllocError> {
-        let names = document_rows!(row_names!());
-        let values = document_rows!(row_values!(self));
-        write_table(alloc, names, &values, &self.extensions)
-    }
-
-    fn print(&self, alloc: Global, out: &mut Writer) -> Result<(), AllocError> {
-        let names = document_rows_by_name!(row_names!());
-        let values = document_rows_by_name!(row_values!(self));
-        print_table(alloc, out, names, &values, &self.extensions)
     }
 
     fn try_clone(&self, alloc: Global) -> Result<OpenApi, AllocError> {

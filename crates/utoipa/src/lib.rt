@@ -5,6 +5,7 @@
 mod bracketing;
 mod builder;
 mod document;
+pub mod laws;
 mod merging;
 mod nesting;
 pub mod openapi;
@@ -14,9 +15,7 @@ mod traits;
 
 pub use tags::{openapi_of, operation_of};
 pub use traits::{Modify, OpenApi};
-pub use utoipa_base::{
-    Counted, Number, Place, ReadFault, Readings, Tree, has_fraction, laws, same_tree,
-};
+pub use utoipa_base::{Counted, Number, Place, ReadFault, Readings, Tree, has_fraction, same_tree};
 pub use utoipa_compose::{ComposeFault, PartialSchema, ToSchema, TupleUnit, schema_of};
 pub use utoipa_operation_parts::{IntoParams, IntoResponses, ToResponse};
 pub use utoipa_paths::Path;

@@ -1,8 +1,8 @@
 //! Merging documents into one.
-ghost use Rattle.std.specs.Prelude.{◌≡◌, ◌∷◌, [], ◌↔◌, ◌||◌, false, true, IfOk, IsErrOf, OnErr, OnOk};
+ghost use Rattle.std.specs.Prelude.{◌≡◌, ◌∷◌, [], ◌↔◌, ◌||◌, false, true, Ok, IfOk, IfErr, IsErrOf, OnErr, OnOk};
 ghost use Rattle.utoipa_base.specs.Views.{option_of};
 ghost use Rattle.utoipa_components.specs.Components.{components_doc};
-ghost use Rattle.utoipa_components.specs.Filled.{AreComponentsInOrder};
+ghost use Rattle.utoipa_components.specs.Filled.{AreComponentsInOrder, GoBack};
 ghost use Rattle.utoipa_merging.specs.Merged.{AreComponentsMerged, ArePathsInOrder, ArePathsMerged, IsInKeyOrder, IsMerged};
 ghost use Rattle.utoipa_paths.specs.Paths.{paths_doc};
 ghost use Rattle.utoipa.specs.Merging.{lists_have_fraction};
@@ -12,10 +12,13 @@ ghost use Rattle.utoipa.specs.declared.merging.MergeFault.TheVariants.{Memory, F
 use crate::document::OpenApi;
 use std::alloc::{AllocError, AllocFailed, Global};
 use thiserror::Error;
-use utoipa_base::option_has_fraction;
-use utoipa_components::{Components, fill_components, take_back_components};
+use utoipa_base::{beside, option_has_fraction};
+use utoipa_components::{Components, FilledComponents, fill_components, take_back_components};
+use utoipa_leaf::server::Server;
+use utoipa_leaf::tag::Tag;
 use utoipa_merging_parts::{make_room, take_entries};
 use utoipa_paths::Paths;
+use utoipa_security::security::SecurityRequirement;
 
 /// Why documents were not merged.
 #[derive(Debug, Drop, Error)]
@@ -79,7 +82,8 @@ impl OpenApi {
         ensures ordered { IfOk result (λ merged. IsInKeyOrder (openapi_doc self) → IsInKeyOrder (openapi_doc other) → IsInKeyOrder (openapi_doc merged)) }
     {
         let mut merged = self;
-        merged.merge(alloc, other)?;
+        let done = merged.merge(alloc, other);
+        let (merged, ()) = beside(merged, done)?;
         Ok(merged)
     }
 
@@ -98,16 +102,11 @@ impl OpenApi {
         ensures err { OnErr result (openapi_doc self.new ≡ openapi_doc self.old) }
         ensures ordered { IsInKeyOrder (openapi_doc self.old) → IsInKeyOrder (openapi_doc other) → IsInKeyOrder (openapi_doc self.new) }
     {
-        let servers = make_room(&mut self.servers, alloc, other.servers)?;
-        let security = make_room(&mut self.security, alloc, other.security)?;
-        let tags = make_room(&mut self.tags, alloc, other.tags)?;
-        merge_maps(
-            &mut self.components,
-            &mut self.paths,
-            alloc,
-            other.components,
-            other.paths,
-        )?;
+        let (servers, security, tags, maps) = parts_of(other);
+        let (maps, servers) = beside(maps, make_room(&mut self.servers, alloc, servers))?;
+        let (maps, security) = beside(maps, make_room(&mut self.security, alloc, security))?;
+        let (maps, tags) = beside(maps, make_room(&mut self.tags, alloc, tags))?;
+        merge_maps(&mut self.components, &mut self.paths, alloc, maps)?;
         take_entries(&mut self.servers, servers);
         take_entries(&mut self.security, security);
         take_entries(&mut self.tags, tags);
@@ -115,30 +114,91 @@ impl OpenApi {
     }
 }
 
+/// The components and the paths of a document.
+type Maps = (Option<Components>, Paths);
+
+/// What is merged of a document: its servers, security requirements, tags and maps. The rest is given up.
+fn parts_of(
+    document: OpenApi,
+) -> (
+    Option<Vec<Server>>,
+    Option<Vec<SecurityRequirement>>,
+    Option<Vec<Tag>>,
+    Maps,
+)
+    ensures { result ≡ (document.servers, document.security, document.tags, (document.components, document.paths)) }
+{
+    let OpenApi {
+        servers,
+        security,
+        tags,
+        components,
+        paths,
+        ..
+    } = document;
+    (servers, security, tags, (components, paths))
+}
+
 /// Merges components and paths, both or none.
 fn merge_maps(
     components: &mut Option<Components>,
     paths: &mut Paths,
     alloc: Global,
-    later_components: Option<Components>,
-    later_paths: Paths,
+    later: Maps,
 ) -> Result<(), AllocError>
-    ensures components { OnOk result (AreComponentsMerged (option_of components_doc components.old ∷ option_of components_doc later_components ∷ []) (option_of components_doc components.new)) }
-    ensures paths { OnOk result (ArePathsMerged (paths_doc paths.old ∷ paths_doc later_paths ∷ []) (paths_doc paths.new)) }
+    ensures components { OnOk result (AreComponentsMerged (option_of components_doc components.old ∷ option_of components_doc later.0 ∷ []) (option_of components_doc components.new)) }
+    ensures paths { OnOk result (ArePathsMerged (paths_doc paths.old ∷ paths_doc later.1 ∷ []) (paths_doc paths.new)) }
     ensures components_err { OnErr result (option_of components_doc components.new ≡ option_of components_doc components.old) }
     ensures paths_err { OnErr result (paths_doc paths.new ≡ paths_doc paths.old) }
-    ensures components_ordered { AreComponentsInOrder components.old → AreComponentsInOrder later_components → AreComponentsInOrder components.new }
-    ensures paths_ordered { ArePathsInOrder (paths_doc paths.old) → ArePathsInOrder (paths_doc later_paths) → ArePathsInOrder (paths_doc paths.new) }
+    ensures components_ordered { AreComponentsInOrder components.old → AreComponentsInOrder later.0 → AreComponentsInOrder components.new }
+    ensures paths_ordered { ArePathsInOrder (paths_doc paths.old) → ArePathsInOrder (paths_doc later.1) → ArePathsInOrder (paths_doc paths.new) }
 {
-    let filled = fill_components(components, alloc, later_components)?;
-    match paths.merge(alloc, later_paths) {
-        Ok(()) => {
-            drop(filled);
-            Ok(())
-        }
-        Err(refused) => {
-            take_back_components(components, filled);
-            Err(refused)
-        }
+    let (later_components, later_paths) = later;
+    let filled = fill_components(components, alloc, later_components);
+    let (later_paths, filled) = beside(later_paths, filled)?;
+    let merged = paths.merge(alloc, later_paths);
+    keep_if_merged(components, filled, &merged);
+    merged
+}
+
+/// Takes back what components took where the paths were not merged.
+fn keep_if_merged(
+    components: &mut Option<Components>,
+    filled: FilledComponents,
+    paths: &Result<(), AllocError>,
+)
+    ensures kept { OnOk paths.now (components.new ≡ components.old) }
+    ensures taken_back { OnErr paths.now ((before : _) → GoBack filled components.old before → option_of components_doc components.new ≡ option_of components_doc before) }
+{
+    if paths.is_err() {
+        take_back_components(components, filled);
     }
+}
+
+/// What was made, or the fault of memory.
+pub(crate) fn or_memory<T: Drop>(made: Result<T, AllocError>) -> Result<T, MergeFault>
+    ensures ok { IfOk result (λ value. made ≡ Ok value) }
+    ensures err { IfErr result (λ fault. fault ≡ Memory) }
+{
+    match made {
+        Ok(value) => Ok(value),
+        Err(_) => Err(MergeFault::Memory),
+    }
+}
+
+/// A document with another merged into it, where no server and no tag of either holds a fraction. Fails where memory runs out.
+pub(crate) fn merged_with(
+    document: OpenApi,
+    alloc: Global,
+    other: OpenApi,
+) -> Result<OpenApi, AllocError>
+    requires plain { lists_have_fraction (openapi_doc document) ≡ false }
+    requires other_plain { lists_have_fraction (openapi_doc other) ≡ false }
+    ensures ok { IfOk result (λ merged. IsMerged (openapi_doc document ∷ openapi_doc other ∷ []) (openapi_doc merged)) }
+    ensures ordered { IfOk result (λ merged. IsInKeyOrder (openapi_doc document) → IsInKeyOrder (openapi_doc other) → IsInKeyOrder (openapi_doc merged)) }
+{
+    let mut document = document;
+    let merged = document.merge_plain(alloc, other);
+    let (document, ()) = beside(document, merged)?;
+    Ok(document)
 }

@@ -8,13 +8,15 @@ ghost use Rattle.utoipa_merging.specs.Slots.{entries_in, paths_of};
 ghost use Rattle.utoipa_path.specs.Docs.{path_item_doc};
 ghost use Rattle.utoipa_paths.specs.Items.{AreItemsInOrder};
 ghost use Rattle.utoipa.specs.Merging.{lists_have_fraction};
-ghost use Rattle.utoipa.specs.Nesting.{MayAnswerEach, MayRefuseOne, AreMounted};
+ghost use Rattle.utoipa.specs.Nesting.{MayAnswerEach, MayRefuseOne, AreMounted, ArePathsMounted};
 ghost use Rattle.utoipa.specs.OpenApi.{openapi_doc};
 ghost use Rattle.utoipa.specs.declared.merging.MergeFault.TheVariants.{Memory, Fraction, Composer};
 
 use crate::document::OpenApi;
-use crate::merging::MergeFault;
+use crate::merging::{MergeFault, merged_with, or_memory};
 use std::alloc::{AllocError, Global};
+use std::mem;
+use utoipa_base::beside;
 use utoipa_path::PathItem;
 use utoipa_paths::{Paths, PathsMap};
 
@@ -56,19 +58,36 @@ impl OpenApi {
             × IsNested answers (openapi_doc self) (openapi_doc other) (openapi_doc nested)) }
         ensures ordered { IfOk result (λ nested. IsInKeyOrder (openapi_doc self) → IsInKeyOrder (openapi_doc other) → IsInKeyOrder (openapi_doc nested)) }
     {
-        if self.lists_have_fraction() || other.lists_have_fraction() {
-            return Err(MergeFault::Fraction);
-        }
         let mut document = self;
-        let nested = other.paths;
-        let rest = OpenApi {
-            paths: Paths::new(alloc),
-            ..other
-        };
-        mount(&mut document.paths.paths, base, nested.paths, &composer)?;
-        document.merge_plain(alloc, rest)?;
-        Ok(document)
+        let mut other = other;
+        let mounted = mount_paths(&mut document, alloc, base, &mut other, &composer);
+        let ((document, other), ()) = beside((document, other), mounted)?;
+        or_memory(merged_with(document, alloc, other))
     }
+}
+
+/// Takes the paths of another document, and puts each of their items at the composer's answer to its path; their extensions are dropped.
+/// Fails as [`OpenApi::nest_with_path_composer`] does, and then some items were put.
+fn mount_paths<F: Fn(&str, &str) -> Result<String, AllocError>>(
+    document: &mut OpenApi,
+    alloc: Global,
+    base: &str,
+    other: &mut OpenApi,
+    composer: &F,
+) -> Result<(), MergeFault>
+    requires { F.IsAlwaysCallable composer.now }
+    ensures fraction { IsErrOf result Fraction ↔ ((lists_have_fraction (openapi_doc document.old) || lists_have_fraction (openapi_doc other.old)) ≡ true) }
+    ensures composer { IsErrOf result Composer → MayRefuseOne F.Fn composer.now base.now (keys_of (entries_in (paths_of (openapi_doc other.old)))) }
+    ensures ok { OnOk result ((answers : List (List ℕ))
+        × MayAnswerEach F.Fn composer.now base.now (keys_of (entries_in (paths_of (openapi_doc other.old)))) answers
+        × ArePathsMounted answers document.old document.new other.old other.new) }
+    ensures ordered { OnOk result (AreItemsInOrder document.old.paths.paths → AreItemsInOrder other.old.paths.paths → AreItemsInOrder document.new.paths.paths) }
+{
+    if document.lists_have_fraction() || other.lists_have_fraction() {
+        return Err(MergeFault::Fraction);
+    }
+    let nested = mem::replace(&mut other.paths, Paths::new(alloc));
+    mount(&mut document.paths.paths, base, nested.paths, composer)
 }
 
 /// Puts each nested item at the composer's answer to its path.

@@ -82,6 +82,7 @@ pub mod request_body {
 
 /// What an operation answers: the Responses Object and the Response Object (OpenAPI 3.1, sections 4.8.16 and 4.8.17).
 pub mod response {
+    pub use utoipa_base::{NameHasher, OrderedMap};
     pub use utoipa_operation_parts::{
         Response, ResponseBuilder, ResponseExt, Responses, ResponsesBuilder,
     };

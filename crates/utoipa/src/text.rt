@@ -12,7 +12,7 @@ use crate::document::OpenApi;
 use json::Writer;
 use serde_json::Value;
 use std::alloc::{AllocError, Global};
-use utoipa_base::{ReadFault, Tree};
+use utoipa_base::{Emit, ReadFault, Tree};
 
 impl OpenApi {
     /// The document of a JSON text.
@@ -36,7 +36,7 @@ impl OpenApi {
             → string_bytes text ≡ compact_text (write (openapi_doc self.now))) }
     {
         let mut out = Writer::new(Vec::with_capacity(alloc, 128)?);
-        self.print(alloc, &mut out)?;
+        self.emit(&mut out)?;
         // What a writer of JSON has is UTF-8.
         Ok(String::from_utf8(out.into_inner()).unwrap())
     }

@@ -1,41 +1,60 @@
-use Rattle.std.proofs.Common.{◌++◌, ap, sym, ◌∙◌, arith}
-use Rattle.utoipa_merging.specs.Merged.{IsInKeyOrder}
+use Rattle.std.proofs.Common.{◌++◌, map, ap, sym, subst, ◌∙◌, arith}
+use Rattle.std.specs.List.{AllByRecursion}
+use Rattle.std.proofs.lemmas.Result.{IfOk-weaker}
+use Rattle.utoipa_merging.specs.Merged.{IsInKeyOrder, IsMerged}
 use Rattle.utoipa.specs.Merging.{leaves_of}
 use Rattle.utoipa.specs.OpenApi.{openapi_doc}
 use Rattle.utoipa.proofs.Bracketed.{left_fewer, right_fewer, right_plain, left_plain, on_both, pair_merged, leaf_merged}
+use Rattle.utoipa.proofs.MadeBeside.{made_is}
 use Rattle.utoipa.proofs.MergedDocuments.{merged_plain}
 use Rattle.utoipa.proofs.bracketing.+merge_pairs.Goals as goal
 
 pub merge_pairs-requires : goal.merge_pairs-requires
-merge_pairs-requires t c = (omega (arith, left_fewer (leaves_of c.args.bracketing) c.into_inner.result c.in-Join.right.value (ap leaves_of c.in-Join.is ∙ (λ i. leaves_of (sym c.into_inner.ensures i) ++ leaves_of c.in-Join.right.value))), left_plain (leaves_of c.args.bracketing) (leaves_of c.into_inner.result) (leaves_of c.in-Join.right.value) (ap leaves_of c.in-Join.is ∙ (λ i. leaves_of (sym c.into_inner.ensures i) ++ leaves_of c.in-Join.right.value)) c.requires.plain)
+merge_pairs-requires t c =
+    let both = ap leaves_of c.in-Join.is ∙ (λ i. leaves_of (sym c.into_inner.ensures i) ++ leaves_of c.in-Join.right.value) in
+    (omega (arith, left_fewer (leaves_of c.args.bracketing) c.into_inner.result c.in-Join.right.value both), left_plain (leaves_of c.args.bracketing) (leaves_of c.into_inner.result) (leaves_of c.in-Join.right.value) both c.requires.plain)
 
-pub merge_pairs-requires-in-Join : goal.merge_pairs-requires-in-Join
-merge_pairs-requires-in-Join t c =
-    (omega (arith, right_fewer (leaves_of c.args.bracketing) c.into_inner.result c.into_inner-in-Join.result (ap leaves_of c.in-Join.is ∙ (λ i. leaves_of (sym c.into_inner.ensures i) ++ leaves_of (sym c.into_inner-in-Join.ensures i)))), right_plain (leaves_of c.args.bracketing) (leaves_of c.into_inner.result) (leaves_of c.into_inner-in-Join.result) (ap leaves_of c.in-Join.is ∙ (λ i. leaves_of (sym c.into_inner.ensures i) ++ leaves_of (sym c.into_inner-in-Join.ensures i))) c.requires.plain)
+pub merge_pairs-later-requires : goal.merge_pairs-later-requires
+merge_pairs-later-requires t c =
+    let both = ap leaves_of c.in-Join.is ∙ (λ i. leaves_of (sym c.into_inner.ensures i) ++ leaves_of (sym c.into_inner-in-Join.ensures i)) in
+    (omega (arith, right_fewer (leaves_of c.args.bracketing) c.into_inner.result c.into_inner-in-Join.result both), right_plain (leaves_of c.args.bracketing) (leaves_of c.into_inner.result) (leaves_of c.into_inner-in-Join.result) both c.requires.plain)
 
-pub merge_plain-requires-clause-plain : goal.merge_plain-requires-clause-plain
-merge_plain-requires-clause-plain t c =
-    merged_plain (leaves_of c.into_inner.result) c.in_ok-merged-in-Join.merged
-    (left_plain (leaves_of c.args.bracketing) (leaves_of c.into_inner.result) (leaves_of c.into_inner-in-Join.result) (ap leaves_of c.in-Join.is ∙ (λ i. leaves_of (sym c.into_inner.ensures i) ++ leaves_of (sym c.into_inner-in-Join.ensures i))) c.requires.plain)
-    c.in_ok-merged-in-Join.ensures.ok
+pub merged_with-requires-clause-plain : goal.merged_with-requires-clause-plain
+merged_with-requires-clause-plain t c =
+    let both = ap leaves_of c.in-Join.is ∙ (λ i. leaves_of (sym c.into_inner.ensures i) ++ leaves_of (sym c.into_inner-in-Join.ensures i)) in
+    let left = leaves_of c.into_inner.result in
+    let merged = subst (λ d. IsMerged (map openapi_doc left) (openapi_doc d)) (sym c.in_ok-merged-in-Join-2.ensures.ok.0) c.in_ok-merged-in-Join.ensures.ok in
+    merged_plain left c.in_ok-merged-in-Join-2.merged (left_plain (leaves_of c.args.bracketing) left (leaves_of c.into_inner-in-Join.result) both c.requires.plain) merged
 
-pub merge_plain-requires-clause-other_plain : goal.merge_plain-requires-clause-other_plain
-merge_plain-requires-clause-other_plain t c =
-    merged_plain (leaves_of c.into_inner-in-Join.result) c.in_ok-merge_pairs-in-Join.field-0
-    (right_plain (leaves_of c.args.bracketing) (leaves_of c.into_inner.result) (leaves_of c.into_inner-in-Join.result) (ap leaves_of c.in-Join.is ∙ (λ i. leaves_of (sym c.into_inner.ensures i) ++ leaves_of (sym c.into_inner-in-Join.ensures i))) c.requires.plain)
-    c.in_ok-merge_pairs-in-Join.ensures.ok
+pub merged_with-requires-clause-other_plain : goal.merged_with-requires-clause-other_plain
+merged_with-requires-clause-other_plain t c =
+    let both = ap leaves_of c.in-Join.is ∙ (λ i. leaves_of (sym c.into_inner.ensures i) ++ leaves_of (sym c.into_inner-in-Join.ensures i)) in
+    let right = leaves_of c.into_inner-in-Join.result in
+    let later = made_is (λ d. IsMerged (map openapi_doc right) (openapi_doc d)) c.merge_pairs-later.result _ c.merge_pairs-later.ensures.ok c.in_ok-merged-in-Join-2.ensures.ok.1 in
+    merged_plain right c.in_ok-merged-in-Join-2.later (right_plain (leaves_of c.args.bracketing) (leaves_of c.into_inner.result) right both c.requires.plain) later
 
 pub returns-in-Leaf-clause-ok : goal.returns-in-Leaf-clause-ok
 returns-in-Leaf-clause-ok t c = leaf_merged (leaves_of c.args.bracketing) c.in-Leaf.document (ap leaves_of c.in-Leaf.is)
 
-pub returns-in_ok-merge_plain-in-Join-clause-ok : goal.returns-in_ok-merge_plain-in-Join-clause-ok
-returns-in_ok-merge_plain-in-Join-clause-ok t c =
-    pair_merged (leaves_of c.args.bracketing) (leaves_of c.into_inner.result) (leaves_of c.into_inner-in-Join.result) c.in_ok-merged-in-Join.merged c.in_ok-merge_pairs-in-Join.field-0 c.merge_plain.new.self
-    (ap leaves_of c.in-Join.is ∙ (λ i. leaves_of (sym c.into_inner.ensures i) ++ leaves_of (sym c.into_inner-in-Join.ensures i)))
-    c.in_ok-merged-in-Join.ensures.ok c.in_ok-merge_pairs-in-Join.ensures.ok c.in_ok-merge_plain-in-Join.ensures.ok
+pub returns-in_ok-merged-in-Join-2-clause-ok : goal.returns-in_ok-merged-in-Join-2-clause-ok
+returns-in_ok-merged-in-Join-2-clause-ok t c =
+    let both = ap leaves_of c.in-Join.is ∙ (λ i. leaves_of (sym c.into_inner.ensures i) ++ leaves_of (sym c.into_inner-in-Join.ensures i)) in
+    let left = leaves_of c.into_inner.result in
+    let right = leaves_of c.into_inner-in-Join.result in
+    let kept = c.in_ok-merged-in-Join-2.ensures.ok in
+    let merged = subst (λ d. IsMerged (map openapi_doc left) (openapi_doc d)) (sym kept.0) c.in_ok-merged-in-Join.ensures.ok in
+    let later = made_is (λ d. IsMerged (map openapi_doc right) (openapi_doc d)) c.merge_pairs-later.result _ c.merge_pairs-later.ensures.ok kept.1 in
+    IfOk-weaker c.merged_with.result _ _ (λ d h. pair_merged (leaves_of c.args.bracketing) left right c.in_ok-merged-in-Join-2.merged c.in_ok-merged-in-Join-2.later d both merged later h) c.merged_with.ensures.ok
 
-pub returns-in_ok-merge_plain-in-Join-clause-ordered : goal.returns-in_ok-merge_plain-in-Join-clause-ordered
-returns-in_ok-merge_plain-in-Join-clause-ordered t c = λ all.
-    let sides = on_both (λ d. IsInKeyOrder (openapi_doc d)) (leaves_of c.args.bracketing) (leaves_of c.into_inner.result) (leaves_of c.into_inner-in-Join.result)
-    (ap leaves_of c.in-Join.is ∙ (λ i. leaves_of (sym c.into_inner.ensures i) ++ leaves_of (sym c.into_inner-in-Join.ensures i))) all in
-    c.in_ok-merge_plain-in-Join.ensures.ordered (c.in_ok-merged-in-Join.ensures.ordered sides.0) (c.in_ok-merge_pairs-in-Join.ensures.ordered sides.1)
+pub returns-in_ok-merged-in-Join-2-clause-ordered : goal.returns-in_ok-merged-in-Join-2-clause-ordered
+returns-in_ok-merged-in-Join-2-clause-ordered t c =
+    let both = ap leaves_of c.in-Join.is ∙ (λ i. leaves_of (sym c.into_inner.ensures i) ++ leaves_of (sym c.into_inner-in-Join.ensures i)) in
+    let left = leaves_of c.into_inner.result in
+    let right = leaves_of c.into_inner-in-Join.result in
+    let kept = c.in_ok-merged-in-Join-2.ensures.ok in
+    let later = made_is (λ d. AllByRecursion (λ e. IsInKeyOrder (openapi_doc e)) right → IsInKeyOrder (openapi_doc d)) c.merge_pairs-later.result _ c.merge_pairs-later.ensures.ordered kept.1 in
+    IfOk-weaker c.merged_with.result _ _
+    (λ d h. λ all.
+    let sides = on_both (λ e. IsInKeyOrder (openapi_doc e)) (leaves_of c.args.bracketing) left right both all in
+    h (subst (λ e. IsInKeyOrder (openapi_doc e)) (sym kept.0) (c.in_ok-merged-in-Join.ensures.ordered sides.0)) (later sides.1))
+    c.merged_with.ensures.ordered

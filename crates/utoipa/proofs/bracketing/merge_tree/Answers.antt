@@ -11,11 +11,8 @@ returns-then-leaf_has_fraction-clause-fraction c =
 pub returns-then-leaf_has_fraction-clause-one : goal.returns-then-leaf_has_fraction-clause-one
 returns-then-leaf_has_fraction-clause-one c = no_leaf c.args.bracketing c.in_default.not-Leaf (λ d. Err Fraction ≡ Ok d)
 
-pub returns-in_err-merge_pairs-in_default-clause-one : goal.returns-in_err-merge_pairs-in_default-clause-one
-returns-in_err-merge_pairs-in_default-clause-one c = no_leaf c.args.bracketing c.in_default.not-Leaf (λ d. c.from_residual.result ≡ Ok d)
-
 pub returns-in-Leaf-clause-ok : goal.returns-in-Leaf-clause-ok
 returns-in-Leaf-clause-ok c = leaf_merged (leaves_of c.args.bracketing) c.in-Leaf.document (ap leaves_of c.in-Leaf.is)
 
-pub returns-in_ok-merge_pairs-in_default-clause-one : goal.returns-in_ok-merge_pairs-in_default-clause-one
-returns-in_ok-merge_pairs-in_default-clause-one c = no_leaf c.args.bracketing c.in_default.not-Leaf (λ d. Ok c.in_ok-merge_pairs-in_default.field-0 ≡ Ok d)
+pub returns-else-leaf_has_fraction-clause-one : goal.returns-else-leaf_has_fraction-clause-one
+returns-else-leaf_has_fraction-clause-one c = no_leaf c.args.bracketing c.in_default.not-Leaf (λ d. c.or_memory.result ≡ Ok d)

@@ -24,8 +24,12 @@ returns g c =
           (same_field _ _ _ _ refl
           (same_field _ _ _ _ refl
           (same_field _ _ _ _ refl
+          (same_field _ _ _ _ refl
+          (same_field _ _ _ _ refl
+          (same_field _ _ _ _ refl
+          (same_field _ _ _ _ refl
           (same_field _ _ _ _
           (ap (λ es. entries_doc es (option_map extensions_view own.paths.extensions))
-          (items ∙ ap (changed further path) c.replace-items.ensures.value ∙ ap (λ t. changed t path own.paths.paths) made.1 ∙ ap (λ p. changed g.T.NestedApiConfig.tagged p own.paths.paths) made.2)) refl))))
+          (items ∙ ap (changed further path) c.replace-items.ensures.value ∙ ap (λ t. changed t path own.paths.paths) made.1 ∙ ap (λ p. changed g.T.NestedApiConfig.tagged p own.paths.paths) made.2)) refl))))))))
           refl,
     ))

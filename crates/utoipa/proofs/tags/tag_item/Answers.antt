@@ -20,15 +20,17 @@ returns c =
     ∙ same_table path_item_object _ _ _ _
     (same_field _ _ _ _ refl
     (same_field _ _ _ _ refl
-    (same_field _ _ _ _ refl
-    (same_field _ _ _ _ refl
+    (same_field _ _ _ _ main.7
     (same_field _ _ _ _ refl
     (same_field _ _ _ _ main.4
-    (same_field _ _ _ _ main.5
-    (same_field _ _ _ _ main.6
-    (same_field _ _ _ _ main.7
-    (same_field _ _ _ _ (other.4 ∙ ap {A = PathItemFields} (λ i. tagged i.options) main.8)
     (same_field _ _ _ _ (other.5 ∙ ap {A = PathItemFields} (λ i. tagged i.head) main.8)
+    (same_field _ _ _ _ (other.4 ∙ ap {A = PathItemFields} (λ i. tagged i.options) main.8)
+    (same_field _ _ _ _ refl
     (same_field _ _ _ _ (other.6 ∙ ap {A = PathItemFields} (λ i. tagged i.patch) main.8)
-    (same_field _ _ _ _ (other.7 ∙ ap {A = PathItemFields} (λ i. tagged i.trace) main.8) refl)))))))))))))
+    (same_field _ _ _ _ main.6
+    (same_field _ _ _ _ main.5
+    (same_field _ _ _ _ refl
+    (same_field _ _ _ _ refl
+    (same_field _ _ _ _ refl
+    (same_field _ _ _ _ (other.7 ∙ ap {A = PathItemFields} (λ i. tagged i.trace) main.8) refl)))))))))))))))
     refl

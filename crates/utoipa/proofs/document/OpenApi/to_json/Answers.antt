@@ -2,24 +2,19 @@ use Rattle.std.proofs.Common.{◌≡◌, ◌∙◌, ◌++◌, IfOk, sym, ap, sub
 use Rattle.std.specs.Str.{IsUtf8}
 use Rattle.std.specs.String.{string_vec}
 use Rattle.json.specs.Print.{print}
-use Rattle.utoipa_base.specs.Printed.{value_tokens}
 use Rattle.utoipa_base.specs.Writing.{write}
-use Rattle.utoipa_base.proofs.Tokens.{text_of_tokens}
+use Rattle.utoipa_base.proofs.SentTokens.{text_of_events}
 use Rattle.utoipa.specs.OpenApi.{openapi_doc}
 use Rattle.utoipa.proofs.document.OpenApi.to_json.Goals as goal
 
 pub unwrap-requires : goal.unwrap-requires
 unwrap-requires c =
-    let printed = c.into_inner.ensures.items ∙ ap (λ bs. bs ++ print c.print.new.out.tokens) (c.in_ok-print.ensures.before ∙ c.new-out.ensures.before ∙ c.in_ok-with_capacity.ensures.items) in
+    let printed = c.into_inner.ensures.items ∙ ap (λ bs. bs ++ print c.emit.new.out.tokens) (c.in_ok-emit.ensures.before ∙ c.new-out.ensures.before ∙ c.in_ok-with_capacity.ensures.items) in
     c.from_utf8.ensures.succeeds (subst IsUtf8 (sym printed) c.into_inner.ensures.utf8)
 
 pub returns : goal.returns
 returns c = λ plain.
-    let tree = write (openapi_doc c.args.self.now) in
     let bytes = c.into_inner.result in
     let whole = subst (λ r. IfOk r (λ s. string_vec s ≡ bytes)) c.unwrap.ensures c.from_utf8.ensures.ok in
     ap (λ v. v.items) whole
-    ∙ c.into_inner.ensures.items
-    ∙ ap (λ bs. bs ++ print c.print.new.out.tokens) (c.in_ok-print.ensures.before ∙ c.new-out.ensures.before ∙ c.in_ok-with_capacity.ensures.items)
-    ∙ ap print (c.in_ok-print.ensures.tokens plain ∙ ap (λ ts. ts ++ value_tokens tree) c.new-out.ensures.tokens)
-    ∙ text_of_tokens tree
+    ∙ text_of_events (write (openapi_doc c.args.self.now)) _ _ _ _ (c.new-out.ensures.before ∙ c.in_ok-with_capacity.ensures.items) c.new-out.ensures.tokens c.in_ok-emit.ensures c.into_inner.ensures.items plain

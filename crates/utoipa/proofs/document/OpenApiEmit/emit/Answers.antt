@@ -1,6 +1,6 @@
 -- Written by tools/answers.py utoipa document OpenApi
 use Rattle.std.proofs.Common.{refl}
-use Rattle.utoipa.proofs.document.OpenApiTree.print.Goals as goal
+use Rattle.utoipa.proofs.document.OpenApiEmit.emit.Goals as goal
 
 pub returns : goal.returns
-returns c = c.print_table.ensures _ refl
+returns g c = c.emit_table.ensures _ refl
