@@ -1,12 +1,12 @@
 #!/usr/bin/env python3
-"""Writes the answers of the types that are read, written and printed by the lists of their rows.
+"""Writes the answers of the types that are read and sent by the lists of their rows.
 
     tools/answers.py CRATE MODULE TYPE..
 
 reads crates/CRATE/src/MODULE.rt (MODULE as `security/http` for a module in a folder) and writes, for each TYPE, the answers of
-its `read_plain`, `to_value` and `print` below crates/CRATE/proofs/MODULE/. Its `impl Tree` has to have the form of the others: the ghost
-`kind` is `named OBJECT_TYPE`, `read_plain` calls `read_table` and `to_value` calls `write_table`, or both the `.._alone` of a type that
-keeps no extensions, and `print` calls `print_table`. The answers say that the rows of the list are those of the type's table, which is found by computing.
+its `read_plain` and `emit` below crates/CRATE/proofs/MODULE/. Its impls have to have the form of the others: the ghost
+`kind` is `named OBJECT_TYPE`, `read_plain` calls `read_table`, or `read_table_alone` of a type that keeps no extensions, and
+`emit` calls `emit_table`. The answers say that the rows of the list are those of the type's table, which is found by computing.
 """
 import os
 import re
@@ -24,37 +24,27 @@ returns-in_err-fields c = passes_reads _ _ _ _ _ _ _ _ _ _ _ c.from_residual.ens
 pub returns : goal.returns
 returns c = reads_as _ _ _ _ _ _ _ _ refl (c.in_ok-fields.ensures {table} refl refl)
 """
-WRITTEN = """{header}use Rattle.std.proofs.Common.{{refl}}
-use Rattle.utoipa_base.specs.Kinds.{{{table}}}
-use {path}.to_value.Goals as goal
+EMITTED = """{header}use Rattle.std.proofs.Common.{{refl}}
+use {path}.emit.Goals as goal
 
 pub returns : goal.returns
-returns c = c.{call}.ensures {table} refl
-"""
-
-PRINTED = """{header}use Rattle.std.proofs.Common.{{refl}}
-use {path}.print.Goals as goal
-
-pub returns : goal.returns
-returns c = c.print_table.ensures _ refl
+returns g c = c.emit_table.ensures _ refl
 """
 
 
 def answers(crate, module, name):
     with open(os.path.join(ROOT, "crates", crate, "src", module + ".rt")) as file:
         source = file.read()
-    start = source.index("impl Tree for %s {" % name)
+    start = source.index("impl Documented for %s {" % name)
     block = source[start : source.index("\n}\n", start)]
     table = re.search(r"ghost kind = \{ named (\w+) \}", block).group(1)
-    call = re.search(r"\b(write_table(?:_alone)?)\(", block).group(1)
-    values = {
-        "header": "-- Written by tools/answers.py %s %s %s\n" % (crate, module, name),
-        "path": "Rattle.%s.proofs.%s.%sTree" % (crate, module.replace("/", "."), name),
-        "table": table,
-        "call": call,
-    }
-    for function, text in (("read_plain", READ), ("to_value", WRITTEN), ("print", PRINTED)):
-        folder = os.path.join(ROOT, "crates", crate, "proofs", module, name + "Tree", function)
+    for trait, function, text in (("Tree", "read_plain", READ), ("Emit", "emit", EMITTED)):
+        values = {
+            "header": "-- Written by tools/answers.py %s %s %s\n" % (crate, module, name),
+            "path": "Rattle.%s.proofs.%s.%s%s" % (crate, module.replace("/", "."), name, trait),
+            "table": table,
+        }
+        folder = os.path.join(ROOT, "crates", crate, "proofs", module, name + trait, function)
         os.makedirs(folder, exist_ok=True)
         with open(os.path.join(folder, "Answers.antt"), "w") as file:
             file.write(text.format(**values))

@@ -37,7 +37,8 @@ import sys
 ROOT = os.path.dirname(os.path.dirname(os.path.abspath(__file__)))
 
 # The programs of cases. Of the types of docs/FORMAT.md, the second knows those of DOCUMENT_TYPES, and the first all others.
-PROGRAMS = ("utoipa_cases", "utoipa_document_cases")
+# The third tells what does not fit in a tree, and knows the types that have a table.
+PROGRAMS = ("utoipa_cases", "utoipa_document_cases", "utoipa_check_cases", "utoipa_dropped_cases")
 DOCUMENT_TYPES = ("Operation", "PathItem", "Callback", "Paths", "Components", "OpenApi")
 
 
@@ -326,6 +327,49 @@ class Printing:
         self.add_with({**outside, **own, **between})
 
 
+class Misfits:
+    """The cases of what does not fit in a tree of one type, over its table."""
+
+    def __init__(self, cases, form, name):
+        self.cases, self.name, self.rows, self.form = cases, name, form.tables[name], form
+        self.smallest = form.smallest(name)
+
+    def are(self, tree, places):
+        """The pointer of the tree itself is the empty text."""
+        self.cases.add("places " + self.name, text_of(tree), " ; ".join(places) if places else "none")
+
+    def add(self):
+        self.cases.say("# %s: the smallest, one with all members, and members that its table doesn't name" % self.name)
+        self.are(self.smallest, [])
+        self.are({it: self.form.fitting(kind) for it, _, kind in self.rows}, [])
+        self.are({**self.smallest, "zzz": 1, "x-a": {"b": [1]}}, [])
+        self.cases.say("# %s: other kinds" % self.name)
+        for tree in (None, True, 5, "t", []):
+            self.are(tree, [""])
+        self.cases.say("# %s: each required member absent, and all at once" % self.name)
+        required = [it for it, mark, _ in self.rows if mark == "required"]
+        for member in required:
+            given = {it: value for it, value in self.smallest.items() if it != member}
+            self.cases.add("misfits " + self.name, text_of(given), ": the member `%s` is required" % member)
+        self.cases.add("misfits " + self.name, "{}", " ; ".join(": the member `%s` is required" % it for it in sorted(required)) or "none")
+        self.cases.say("# %s: each member null, each of another kind, and all of other kinds at once" % self.name)
+        refused = {}
+        for member, mark, kind in self.rows:
+            others = {it: value for it, value in self.smallest.items() if it != member}
+            absent = mark in ("optional", "or_null") or kind in ("SchemaType", "any")
+            self.are({**others, member: None}, [] if absent else ["/" + pointed(member)])
+            other = self.form.of(kind)[1]
+            if other is not None:
+                refused[member] = other
+                self.are({**others, member: other}, ["/" + pointed(member)])
+        self.are({**self.smallest, **refused}, ["/" + pointed(it) for it in sorted(refused)])
+
+
+def pointed(name):
+    """A name, as a JSON Pointer has it."""
+    return name.replace("~", "~0").replace("/", "~1")
+
+
 def add_words(cases, name, words):
     cases.say("# %s: its words, and other texts and kinds" % name)
     for word in words:
@@ -379,6 +423,8 @@ def add_made(cases_of):
         sweep = Sweep(cases_of(name), form, name)
         sweep.add()
         add_trees(sweep.cases, sweep.type)
+    for name in SWEPT:
+        Misfits(cases_of("misfits"), form, name).add()
     for name, type, fixed in PRINTED:
         Printing(cases_of(type), form, name, type, fixed).add()
     for name, words in form.words.items():
@@ -389,7 +435,7 @@ def add_made(cases_of):
 def all_cases():
     """The cases of each program."""
     cases = {program: by_hand(program) for program in PROGRAMS}
-    add_made(lambda type: cases["utoipa_document_cases" if type in DOCUMENT_TYPES else "utoipa_cases"])
+    add_made(lambda type: cases["utoipa_check_cases" if type == "misfits" else "utoipa_document_cases" if type in DOCUMENT_TYPES else "utoipa_cases"])
     return cases
 
 

@@ -65,6 +65,12 @@ NESTED = DOCUMENT % (
     '"/v1/a":{"get":{"operationId":"g2","responses":{}},"post":{"operationId":"p2","responses":{}}},"/v1/b":{}}',
     '[{"url":"A"},{"url":"B"},{"url":"B"}]',
 )
+# The same at the empty base: the second's item stands in place of the first's.
+NESTED_AT_NOTHING = DOCUMENT % (
+    '{"examples":{"E":{"value":1},"F":{}},"schemas":{"S":{"type":"string"}}}',
+    '{"/a":{"get":{"operationId":"g2","responses":{}},"post":{"operationId":"p2","responses":{}}},"/b":{}}',
+    '[{"url":"A"},{"url":"B"},{"url":"B"}]',
+)
 
 # A schema with every member that holds schemas, and with every alternative, as it is printed.
 SCHEMA = (
@@ -96,6 +102,7 @@ COMMANDS_ON_TEXTS = [
     ),
     (["merge"], "[%s,%s]" % (FIRST, SECOND), answered(MERGED + "\n")),
     (["nest", "/v1"], "[%s,%s]" % (FIRST, SECOND), answered(NESTED + "\n")),
+    (["nest", ""], "[%s,%s]" % (FIRST, SECOND), answered(NESTED_AT_NOTHING + "\n")),
 ]
 
 # The command says that memory was refused, and nothing else.
@@ -123,6 +130,12 @@ CASES = [
     ("merge Paths\t", 100, ["refused: memory", "refused: memory, and nothing has changed", "no tree"]),
     ("merge OpenApi\t", 6, ["refused: memory", "refused: memory, and nothing has changed", "no tree"]),
     ("add ", 100, ["refused: memory", "refused: memory, and nothing has changed", "no tree"]),
+    # Change a value; where that is refused and the value's tree is what it was, they do it once more, and print another line where it is
+    # not.
+    ("put-scheme ", 100, ["refused: memory", "no tree"]),
+    ("put-schemes\t", 100, ["refused: memory", "no tree"]),
+    ("put-extension ", 100, ["refused: memory", "no tree"]),
+    ("take-extensions\t", 100, ["refused: memory", "no tree"]),
     # Take the documents of a list.
     ("merge-all\t", 6, ["refused: memory"]),
     ("merge-pairs ", 6, ["refused: memory"]),

@@ -4,21 +4,14 @@ ghost use Rattle.utoipa.specs.OpenApi.{openapi_doc};
 ghost use Rattle.example_gateway.specs.Gateway.{IsGatewayOf};
 
 use crate::service::Service;
-use std::alloc::{AllocError, Global};
+use std::alloc::Global;
 use utoipa::Tree;
-use utoipa::openapi::{Info, MergeFault, OpenApi, Paths, merge_all};
-
-/// What the gateway says of itself: a title and a version, and no path of its own.
-pub fn own_document(alloc: Global) -> Result<OpenApi, AllocError> {
-    let title = String::from_str(alloc, "Gateway")?;
-    let version = String::from_str(alloc, "1.0.0")?;
-    Ok(OpenApi::new(alloc, Info::new(title, version), Paths::new(alloc)))
-}
+use utoipa::openapi::{MergeFault, OpenApi, merge_all};
 
 /// The gateway's own document with those of all services merged into it, the paths of each behind its base.
 ///
-/// Of an operation or a component that two services have under one name, that of the first service stays. What is said of a service as a
-/// whole, as its title, is left out.
+/// Of an operation or a component that two have under one name, the gateway's own stays, or else that of the first service. What is said
+/// of a service as a whole, as its title, is left out.
 ///
 /// Fails with `Memory` where memory runs out, and with `Fraction` where a number in a server or a tag is neither an `i64` nor a `u64`,
 /// which is so in no document that was read.

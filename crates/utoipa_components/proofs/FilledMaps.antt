@@ -1,9 +1,9 @@
 -- Components that take from later ones, by the documents of their maps.
-use Rattle.std.proofs.Common.{◌≡◌, ℕ, List, [], ◌∷◌, ◌++◌, None, Some, Result, Ok, Err, OnErr, option_map, refl, sym, ap, ◌∙◌, subst}
+use Rattle.std.proofs.Common.{◌≡◌, ℕ, List, [], ◌∷◌, ◌++◌, None, Some, option_map, refl, sym, ap, ◌∙◌, subst}
 use Rattle.std.specs.List.{AllByRecursion}
 use Rattle.std.specs.List.Sorted.{IsStrictlySortedBy}
 use Rattle.std.specs.Option.{option_or}
-use Rattle.utoipa_base.specs.Docs.{Doc, none_doc, some_doc, table_doc, docs_of}
+use Rattle.utoipa_base.specs.Docs.{Doc, Docs, no_docs, some_doc, table_doc, docs_of}
 use Rattle.utoipa_base.specs.Extensions.{extensions_view}
 use Rattle.utoipa_base.specs.Kinds.{named, schema, security_scheme, components_object, response_object, parameter_object, example_object, request_body_object, header_object, link_object, media_type_object}
 use Rattle.utoipa_base.specs.Tables.{callback}
@@ -25,7 +25,7 @@ use Rattle.utoipa_components.specs.Components.{components_doc, places_doc}
 use Rattle.utoipa_components.specs.Filled.{AreComponentsInOrder, Maps, NamesPut, maps_in, EntriesGoBack}
 use Rattle.utoipa_components.specs.declared.components.Components.{Components}
 
--- the documents of the maps, in the order of the member table
+-- the documents of the maps, in the order of the fields
 abbrev pub map_docs : Components → List Doc
 map_docs c =
     places_doc schema schema_doc c.schemas
@@ -41,14 +41,17 @@ map_docs c =
     ∷ places_doc security_scheme scheme_doc c.security_schemes
     ∷ []
 
-pub doc_of_maps : (c : Components) → components_doc c ≡ table_doc components_object (docs_of (map_docs c)) (option_map extensions_view c.extensions)
-doc_of_maps c = refl
+-- those documents, in the order of the names of their members
+abbrev by_rows : List Doc → Docs
+by_rows (schemas ∷ responses ∷ parameters ∷ examples ∷ bodies ∷ headers ∷ links ∷ callbacks ∷ items ∷ contents ∷ schemes ∷ ds) =
+    docs_of (callbacks ∷ examples ∷ headers ∷ links ∷ contents ∷ parameters ∷ items ∷ bodies ∷ responses ∷ schemas ∷ schemes ∷ [])
+by_rows ds = no_docs
 
 -- components of equal maps and extensions
 pub same_components : (c d : Components) → map_docs c ≡ map_docs d → c.extensions ≡ d.extensions → components_doc c ≡ components_doc d
 same_components c d maps extensions =
-    ap (λ ds. table_doc components_object (docs_of ds) (option_map extensions_view c.extensions)) maps
-    ∙ ap (λ e. table_doc components_object (docs_of (map_docs d)) (option_map extensions_view e)) extensions
+    ap (λ ds. table_doc components_object (by_rows ds) (option_map extensions_view c.extensions)) maps
+    ∙ ap (λ e. table_doc components_object (by_rows (map_docs d)) (option_map extensions_view e)) extensions
 
 -- ---- merged
 
@@ -80,22 +83,6 @@ pub one_merged : (d : Doc) → AreComponentsMerged (d ∷ []) d
 one_merged d = record {
   there = sym (or_false (is_there d));
   maps = λ m name. sym (or_none (component_at m name d));
-  extensions = refl;
-}
-
--- no later components
-pub none_merged : (d : Doc) → AreComponentsMerged (d ∷ none_doc ∷ []) d
-none_merged d = record {
-  there = sym (or_false (is_there d));
-  maps = λ m name. sym (or_none (component_at m name d));
-  extensions = refl;
-}
-
--- later components where there were none
-pub whole_merged : (later : Components) → AreComponentsMerged (none_doc ∷ some_doc (components_doc later) ∷ []) (some_doc (components_doc (record later { extensions = None })))
-whole_merged later = record {
-  there = refl;
-  maps = λ m name. sym (or_none (component_at m name (some_doc (components_doc later))));
   extensions = refl;
 }
 
@@ -200,7 +187,3 @@ noted names standing made old new r g =
 
 pub maps_back : (names : NamesPut) (n b : Components) → EntriesGoBack names n b → MapsGoBack names (maps_in n) (maps_in b)
 maps_back names n b e = (e.schemas, (e.responses, (e.parameters, (e.examples, (e.request_bodies, (e.headers, (e.links, (e.callbacks, (e.path_items, (e.media_types, (e.security_schemes, tt)))))))))))
-
-pub on_err : {T E : Type 0} (r : Result T E) (P : Type 0) → P → OnErr r P
-on_err (Ok x) P p = tt
-on_err (Err e) P p = p

@@ -25,7 +25,7 @@ AreComponentsInOrder c = (m : ComponentMap) → IsInOrder (field_at (map_member 
 
 -- ---- the maps side by side
 
--- maps side by side, each beside those after it, in the order of the member table
+-- maps side by side, each beside those after it, in the order of the fields
 abbrev pub Maps : Type 0
 Maps =
     PlacesByName Schema
@@ -46,7 +46,7 @@ maps_in c =
 
 -- ---- taking back
 
--- names for each of the maps, in the order of their member table
+-- names for each of the maps, in the order of their fields
 abbrev pub NamesPut : Type 0
 NamesPut = Names × (Names × (Names × (Names × (Names × (Names × (Names × (Names × (Names × (Names × (Names × Unit {0}))))))))))
 

@@ -9,13 +9,12 @@ ghost use Rattle.utoipa_components.specs.Components.{components_doc, components_
 ghost use Rattle.utoipa_security.specs.declared.security.scheme.SecurityScheme.{SecurityScheme};
 
 use crate::builder::ComponentsBuilder;
-use json::Writer;
 use serde_json::Value;
 use std::alloc::{AllocError, Global};
 use std::collections::BTreeMap;
 use utoipa_base::{
-    Extensions, ReadFault, Readings, RefOr, Tree, clone_table, from_fields, print_table, put_all,
-    put_each, read_table, row_names, row_values, write_table,
+    Documented, Emit, Extensions, JsonSink, ReadFault, Readings, RefOr, Tree, clone_table,
+    emit_table, from_fields, put_all, put_each, read_table, row_names, row_values,
 };
 use utoipa_leaf::example::Example;
 use utoipa_media::content::Content;
@@ -26,28 +25,8 @@ use utoipa_path::{Callback, PathItem};
 use utoipa_schema::Schema;
 use utoipa_security::security::SecurityScheme;
 
-// The rows of components, in the order of their member table: mark, member, field.
+// The rows of components, in the order of the members' names: mark, member, field.
 macro_rules! components_rows {
-    ($lines:ident!($($arguments:tt)*)) => {
-        $lines! {
-            $($arguments)*;
-            defaulted "schemas" schemas,
-            defaulted "responses" responses,
-            defaulted "parameters" parameters,
-            defaulted "examples" examples,
-            defaulted "requestBodies" request_bodies,
-            defaulted "headers" headers,
-            defaulted "links" links,
-            defaulted "callbacks" callbacks,
-            defaulted "pathItems" path_items,
-            defaulted "mediaTypes" media_types,
-            defaulted "securitySchemes" security_schemes,
-        }
-    };
-}
-
-// The same, in the order of the members' names.
-macro_rules! components_rows_by_name {
     ($lines:ident!($($arguments:tt)*)) => {
         $lines! {
             $($arguments)*;
@@ -158,12 +137,23 @@ impl Components {
     }
 }
 
-/// Components, by their member table.
-impl Tree for Components {
+impl Documented for Components {
     ghost kind = { named components_object };
 
     ghost doc = { components_doc };
+}
 
+/// Components, by their member table.
+impl Emit for Components {
+    fn emit<S: JsonSink>(&self, out: &mut S) -> Result<(), AllocError> {
+        let names = components_rows!(row_names!());
+        let values = components_rows!(row_values!(self));
+        emit_table(out, names, &values, &self.extensions)
+    }
+}
+
+/// Components, by their member table.
+impl Tree for Components {
     ghost is_of_kind = { components_of_kind };
 
     fn read_plain(
@@ -174,18 +164,6 @@ impl Tree for Components {
         let names = components_rows!(row_names!());
         let (fields, extensions) = read_table(alloc, tree, "Components", names, readings)?;
         Ok(components_rows!(from_fields!(Components, fields, extensions)))
-    }
-
-    fn to_value(&self, alloc: Global) -> Result<Value, AllocError> {
-        let names = components_rows!(row_names!());
-        let values = components_rows!(row_values!(self));
-        write_table(alloc, names, &values, &self.extensions)
-    }
-
-    fn print(&self, alloc: Global, out: &mut Writer) -> Result<(), AllocError> {
-        let names = components_rows_by_name!(row_names!());
-        let values = components_rows_by_name!(row_values!(self));
-        print_table(alloc, out, names, &values, &self.extensions)
     }
 
     fn try_clone(&self, alloc: Global) -> Result<Components, AllocError> {

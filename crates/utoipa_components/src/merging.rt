@@ -1,9 +1,10 @@
 //! Components taken from other documents: in each map stands under a name the entry of the first document that has one.
-ghost use Rattle.std.specs.Prelude.{◌≡◌, ◌∷◌, ◌<◌, [], length, map, IfOk, OnErr, OnOk};
+ghost use Rattle.std.specs.Prelude.{◌≡◌, ◌∷◌, ◌<◌, [], None, Some, length, map, IfOk, OnErr, OnOk};
 ghost use Rattle.std.specs.List.{AllByRecursion};
+ghost use Rattle.utoipa_base.specs.Docs.{some_doc};
 ghost use Rattle.utoipa_base.specs.Views.{option_of};
 ghost use Rattle.utoipa_components.specs.Components.{components_doc};
-ghost use Rattle.utoipa_components.specs.Filled.{maps_in, GoBack, AreComponentsInOrder};
+ghost use Rattle.utoipa_components.specs.Filled.{maps_in, GoBack, EntriesGoBack, AreComponentsInOrder};
 ghost use Rattle.utoipa_merging.specs.Merged.{AreComponentsMerged};
 
 use crate::components::Components;
@@ -22,7 +23,7 @@ use utoipa_security::security::SecurityScheme;
 
 type Places<T> = BTreeMap<String, RefOr<T>>;
 
-// The maps of components side by side, in the order of their member table.
+// The maps of components side by side, in the order of their fields.
 type FirstMaps<R> = (
     Places<Schema>,
     (Places<Response>, (Places<Parameter>, (Places<Example>, R))),
@@ -40,6 +41,9 @@ type LastMaps = (
 
 type Maps = FirstMaps<MiddleMaps<LastMaps>>;
 
+/// The names of what was put into each of the maps.
+type FilledMaps = <Maps as Filling>::Filled;
+
 /// What components took, so that it can be taken back.
 #[derive(Drop)]
 pub enum FilledComponents {
@@ -48,7 +52,7 @@ pub enum FilledComponents {
     /// The components whole, for there were none.
     Whole,
     /// The entries of these names, for each map.
-    Entries(<Maps as Filling>::Filled),
+    Entries(FilledMaps),
 }
 
 /// Takes the entries of later components whose names are not there yet, map by map. Where there are no components, the later are taken
@@ -69,16 +73,31 @@ pub fn fill_components(
         return Ok(FilledComponents::Nothing);
     };
     let Some(standing) = own.take() else {
-        *own = Some(Components {
-            extensions: None,
-            ..later
-        });
+        drop(own.replace(without_extensions(later)));
         return Ok(FilledComponents::Whole);
     };
+    let (standing, filled) = filled_with(standing, alloc, later);
+    drop(own.replace(standing));
+    match filled {
+        Ok(names) => Ok(FilledComponents::Entries(names)),
+        Err(refused) => Err(refused),
+    }
+}
+
+/// Components with the entries of later ones whose names are not there, and what takes these back; without them where memory runs out.
+fn filled_with(
+    standing: Components,
+    alloc: Global,
+    later: Components,
+) -> (Components, Result<FilledMaps, AllocError>)
+    ensures merged { OnOk result.1 (AreComponentsMerged (some_doc (components_doc standing) ∷ some_doc (components_doc later) ∷ []) (some_doc (components_doc result.0))) }
+    ensures noted { IfOk result.1 (λ filled. EntriesGoBack filled result.0 standing) }
+    ensures err { OnErr result.1 (components_doc result.0 ≡ components_doc standing) }
+    ensures ordered { AreComponentsInOrder (Some standing) → AreComponentsInOrder (Some result.0) }
+{
     let (mut maps, extensions) = maps_of(standing);
     let filled = maps.fill(alloc, maps_of(later).0);
-    *own = Some(components_of(maps, extensions));
-    Ok(FilledComponents::Entries(filled?))
+    (components_of(maps, extensions), filled)
 }
 
 /// Takes back what was taken. Takes no memory.
@@ -87,16 +106,22 @@ pub fn take_back_components(own: &mut Option<Components>, filled: FilledComponen
 {
     match filled {
         FilledComponents::Nothing => {}
-        FilledComponents::Whole => *own = None,
+        FilledComponents::Whole => drop(own.take()),
         FilledComponents::Entries(filled) => {
-            let Some(standing) = own.take() else {
-                return;
-            };
-            let (mut maps, extensions) = maps_of(standing);
-            maps.take_back(filled);
-            *own = Some(components_of(maps, extensions));
+            if let Some(standing) = own.take() {
+                drop(own.replace(without_filled(standing, filled)));
+            }
         }
     }
+}
+
+/// Components without what was put into their maps.
+fn without_filled(standing: Components, filled: FilledMaps) -> Components
+    ensures { (before : _) → EntriesGoBack filled standing before → components_doc result ≡ components_doc before }
+{
+    let (mut maps, extensions) = maps_of(standing);
+    maps.take_back(filled);
+    components_of(maps, extensions)
 }
 
 /// The components of all documents in one, where any has some: under each name the entry of the first that has one, and the extensions
@@ -119,6 +144,16 @@ pub fn merge_components(
         drop(fill_components(&mut merged, alloc, later)?);
     }
     Ok(merged)
+}
+
+/// Components without their extensions.
+fn without_extensions(components: Components) -> Components
+    ensures { result ≡ record components { extensions = None } }
+{
+    Components {
+        extensions: None,
+        ..components
+    }
 }
 
 // The maps, and the extensions.

@@ -29,19 +29,19 @@ no_text = text_doc []
 abbrev pub object_with : (types format default required properties values keys minimum : Doc) → Doc
 object_with types format default required properties values keys minimum =
     own_doc (docs.schema_doc (table_doc object_schema
-    (doc types
-    (doc none_doc
-    (doc format
+    (doc values
+    (doc no_text
+    (doc no_text
     (doc none_doc
     (doc default
     (doc none_doc
-    (doc required
-    (doc properties
-    (doc values
-    (doc keys
+    (doc none_doc
     (doc none_doc
     (doc none_doc
     (doc no_list
+    (doc none_doc
+    (doc none_doc
+    (doc format
     (doc none_doc
     (doc none_doc
     (doc none_doc
@@ -50,13 +50,13 @@ object_with types format default required properties values keys minimum =
     (doc minimum
     (doc none_doc
     (doc none_doc
+    (doc properties
+    (doc keys
     (doc none_doc
+    (doc required
     (doc none_doc
+    (doc types
     (doc none_doc
-    (doc none_doc
-    (doc none_doc
-    (doc no_text
-    (doc no_text
     (doc none_doc no_docs)))))))))))))))))))))))))))))
     None))
 
@@ -68,21 +68,21 @@ object_of types format default values keys minimum = object_with types format de
 abbrev pub array_of : (items : Doc) (unique : Bool) → Doc
 array_of items unique =
     own_doc (docs.schema_doc (table_doc array_schema
-    (doc (type_word_doc words.Array)
+    (doc no_text
+    (doc no_text
     (doc none_doc
+    (doc none_doc
+    (doc none_doc
+    (doc none_doc
+    (doc none_doc
+    (doc no_list
     (doc items
+    (doc none_doc
+    (doc none_doc
     (doc no_list
     (doc none_doc
-    (doc none_doc
-    (doc none_doc
-    (doc no_list
-    (doc none_doc
-    (doc none_doc
-    (doc none_doc
+    (doc (type_word_doc words.Array)
     (doc (flag_doc unique)
-    (doc none_doc
-    (doc no_text
-    (doc no_text
     (doc none_doc no_docs))))))))))))))))
     None))
 
@@ -90,15 +90,15 @@ array_of items unique =
 abbrev pub one_of : List Doc → Doc
 one_of schemas =
     own_doc (docs.schema_doc (table_doc one_of_schema
-    (doc (list_doc (docs_of schemas))
-    (doc any_value_doc
     (doc none_doc
     (doc none_doc
     (doc none_doc
     (doc none_doc
     (doc no_list
+    (doc (list_doc (docs_of schemas))
     (doc none_doc
     (doc none_doc
+    (doc any_value_doc
     (doc none_doc no_docs))))))))))
     None))
 

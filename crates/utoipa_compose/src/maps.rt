@@ -85,7 +85,8 @@ impl<K: ComposeSchema + ToSchema + Ord, T: ComposeSchema + ToSchema> ToSchema fo
     }
 }
 
-impl<K: ComposeSchema + Eq + Hash, T: ComposeSchema> ComposeSchema for IndexMap<K, T> {
+impl<K: ComposeSchema + Eq + Hash, T: ComposeSchema, S: BuildHasher> ComposeSchema
+    for IndexMap<K, T, S> {
     ghost composed = { map_composed K.composed T.composed };
 
     fn compose(alloc: Global, schemas: Vec<RefOr<Schema>>) -> Result<RefOr<Schema>, ComposeFault> {
@@ -94,16 +95,17 @@ impl<K: ComposeSchema + Eq + Hash, T: ComposeSchema> ComposeSchema for IndexMap<
     }
 }
 
-impl<K: ComposeSchema + Eq + Hash, T: ComposeSchema> PartialSchema for IndexMap<K, T> {
+impl<K: ComposeSchema + Eq + Hash, T: ComposeSchema, S: BuildHasher> PartialSchema
+    for IndexMap<K, T, S> {
     ghost described = { map_composed K.composed T.composed [] };
 
     fn schema(alloc: Global) -> Result<RefOr<Schema>, ComposeFault> {
-        schema_of::<IndexMap<K, T>>(alloc)
+        schema_of::<IndexMap<K, T, S>>(alloc)
     }
 }
 
-impl<K: ComposeSchema + ToSchema + Eq + Hash, T: ComposeSchema + ToSchema> ToSchema
-    for IndexMap<K, T> {
+impl<K: ComposeSchema + ToSchema + Eq + Hash, T: ComposeSchema + ToSchema, S: BuildHasher> ToSchema
+    for IndexMap<K, T, S> {
     ghost named = { codes "IndexMap" };
 
     ghost referred = { K.referred ++ T.referred };

@@ -17,6 +17,10 @@
 //! | `merge-pairs SIDE` | a JSON text, a list | the same, merged pair by pair: `left` begins with the first two, `right` with the last two |
 //! | `composed RULE` | two JSON texts, a tab between | what the first document is written as, once the second is nested into it at the base `/v1`, where the composer answers each path by the rule: `fixed` by `/x`, `empty` by the empty text, `turned` by the path and then the base; `refuses` refuses each |
 //! | `add PATH` | three JSON texts, a tab between each: paths, a list of methods, an operation | what the paths are written as, once a copy of the operation was put at each of the methods of PATH |
+//! | `put-scheme NAME` | two JSON texts: components, a security scheme or a reference | what the components are written as, once the scheme was put under NAME |
+//! | `put-schemes` | two JSON texts: components, an object of security schemes | the same, once each was put under its name |
+//! | `put-extension NAME` | two JSON texts: paths with extensions, any value | what the paths are written as, once their extension NAME was set |
+//! | `take-extensions` | two JSON texts: paths with extensions, twice | what the first are written as, once they took the extensions of the second |
 //! | `path-from TYPE` | a JSON text | what the paths are written as, once the operation of the type was put at its path |
 //! | `parameters-in PLACE` | nothing | what the parameter of a type is written as in a list, where its provider answers that place, or `none` |
 //! | `operation-of TYPE` | nothing | what the operation of the type is written as, with its tags |
@@ -34,6 +38,7 @@
 //! text.
 #![tactic(auto)]
 
+mod again;
 mod documents;
 mod extended;
 mod extensions;
@@ -75,6 +80,16 @@ fn answer_to_call(alloc: Global, call: &Call<'_>) -> Result<String, AllocError> 
         "add" => merged::with_operation(alloc, call.subject(), call.given),
         "callbacks" => nested::callbacks_kept(alloc, call.given),
         "run" | "run-hex" | "steps" | "calls" | "faults" => runs::answer_to_call(alloc, call),
+        _ => answer_changed_again(alloc, call),
+    }
+}
+
+fn answer_changed_again(alloc: Global, call: &Call<'_>) -> Result<String, AllocError> {
+    match call.name {
+        "put-scheme" => again::with_scheme(alloc, call.subject(), call.given),
+        "put-schemes" => again::with_schemes(alloc, call.given),
+        "put-extension" => again::with_extension(alloc, call.subject(), call.given),
+        "take-extensions" => again::with_extensions_of(alloc, call.given),
         _ => answer_by_type(alloc, call),
     }
 }

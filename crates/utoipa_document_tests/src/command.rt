@@ -55,6 +55,7 @@ fn is_served_or_refused(rt: &impl Abort, status: u8, answer: &[u8], told: &[u8])
     }
 }
 
+// With memory for the line and the answer.
 #[test]
 fn a_caller_serves_a_text(rt: HostRuntime) {
     let mut answer = Vec::new(rt.alloc());
@@ -75,6 +76,7 @@ fn memory_that_is_refused_is_told(rt: HostRuntime) {
     is_served_or_refused(&rt, status, answer.as_slice(), told.as_slice());
 }
 
+// The fault is told by that line.
 fn is_told(rt: &impl Abort, fault: ReadFault, line: &str) {
     is_text(rt, Refusal::from(fault).line(), line);
 }

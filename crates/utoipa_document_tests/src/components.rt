@@ -1,4 +1,4 @@
-//! Components, as their constructors and builders make them, and with security schemes added.
+//! Components, as their constructors and builders make them.
 use crate::shared::{extension, is_written, is_written_first, read, text, two};
 use std::process::Abort;
 use utoipa::openapi::{Components, ComponentsBuilder};
@@ -38,8 +38,10 @@ fn with_operations(
     builder.extensions(extension(rt))
 }
 
+// A new one has none.
 #[test]
 fn each_map_takes_its_components(rt: HostRuntime) {
+    is_written(&rt, Components::new(rt.alloc()), "{}");
     is_written(&rt, ComponentsBuilder::new(rt.alloc()).build(), "{}");
     let components = Components::from(with_messages(&rt, Components::builder(rt.alloc())));
     let messages =
@@ -51,6 +53,7 @@ fn each_map_takes_its_components(rt: HostRuntime) {
     is_written(&rt, components.build(), all);
 }
 
+// In a map that is put one by one, and in one that is put from an iterator.
 #[test]
 fn a_name_takes_its_later_component(rt: HostRuntime) {
     let builder = Components::builder(rt.alloc());
@@ -82,31 +85,5 @@ fn a_name_takes_its_later_component(rt: HostRuntime) {
         &rt,
         builder.expect(&rt, "memory for contents").build(),
         expected,
-    );
-}
-
-#[test]
-fn security_schemes_are_added(rt: HostRuntime) {
-    let mut components = Components::new(rt.alloc());
-    is_written_first(&rt, &components, "{}");
-    let first = read(&rt, r#"{"scheme":"basic","type":"http"}"#);
-    let added = components.add_security_scheme(text(&rt, "k"), first);
-    added.expect(&rt, "memory for a security scheme");
-    is_written_first(
-        &rt,
-        &components,
-        r#"{"securitySchemes":{"k":{"scheme":"basic","type":"http"}}}"#,
-    );
-    let later = two(
-        &rt,
-        (text(&rt, "k"), read(&rt, r#"{"type":"mutualTLS"}"#)),
-        (text(&rt, "a"), read(&rt, r##"{"$ref":"#/k"}"##)),
-    );
-    let added = components.add_security_schemes_from_iter(rt.alloc(), later);
-    added.expect(&rt, "memory for security schemes");
-    is_written(
-        &rt,
-        components,
-        r##"{"securitySchemes":{"a":{"$ref":"#/k"},"k":{"type":"mutualTLS"}}}"##,
     );
 }

@@ -4,10 +4,12 @@ use std::process::Abort;
 use utoipa::openapi::external_docs::ExternalDocs;
 use utoipa::openapi::{Components, Info, OpenApi, OpenApiBuilder, OpenApiVersion, Paths};
 
+// The info of a title and a version alone.
 fn info(rt: &(impl Abort + AllocGlobal)) -> Info {
     Info::new(text(rt, "t"), text(rt, "1"))
 }
 
+// But its info and its paths, where it is made of these.
 #[test]
 fn nothing_is_said_of_a_new_document(rt: HostRuntime) {
     let empty = r#"{"info":{"title":"","version":""},"openapi":"3.1.0","paths":{}}"#;
@@ -21,6 +23,7 @@ fn nothing_is_said_of_a_new_document(rt: HostRuntime) {
     );
 }
 
+// Each setter sets its member, or that there is none.
 #[test]
 fn a_document_is_described(rt: HostRuntime) {
     let builder = OpenApi::builder(rt.alloc()).openapi(OpenApiVersion::Version32);
@@ -48,6 +51,7 @@ fn a_document_is_described(rt: HostRuntime) {
     );
 }
 
+// In the order in which the items are given.
 #[test]
 fn lists_of_a_document_are_set(rt: HostRuntime) {
     let servers = two(
@@ -80,8 +84,9 @@ const COMPACT: &str =
 const PRETTY: &str =
     "{\n  \"info\": {\n    \"title\": \"t\",\n    \"version\": \"1\"\n  },\n  \"openapi\": \"3.1.0\",\n  \"paths\": {\n    \"/a\": {}\n  },\n  \"tags\": [\n    {\n      \"name\": \"a\\\"b\"\n    },\n    {\n      \"name\": \"é\"\n    }\n  ]\n}";
 
+// A text that is none, or that of no document, is refused by what the fault says.
 #[test]
-fn a_document_is_written_as_a_text(rt: HostRuntime) {
+fn a_document_is_written_as_a_text_and_read_from_it(rt: HostRuntime) {
     let document = read::<OpenApi>(&rt, COMPACT);
     let compact = document
         .to_json(rt.alloc())
@@ -90,10 +95,6 @@ fn a_document_is_written_as_a_text(rt: HostRuntime) {
     let pretty = document.to_pretty_json(rt.alloc());
     let pretty = pretty.expect(&rt, "memory for a text");
     is_text(&rt, pretty.as_str(), PRETTY);
-}
-
-#[test]
-fn a_text_is_read_as_a_document(rt: HostRuntime) {
     came_to(&rt, OpenApi::from_json(rt.alloc(), PRETTY), COMPACT);
     came_to(&rt, OpenApi::from_json(rt.alloc(), "["), "no JSON text");
     came_to(

@@ -1,5 +1,5 @@
-//! What needs code to be tested of paths, components, documents and the command: builders, conversions, merging, texts, the module paths
-//! at which a user finds all items, and what a caller of the command learns.
+//! What needs code to be tested of paths, components, documents and the command: builders, conversions, what merging makes of fractions,
+//! composers of paths, texts in lines, the module paths at which a user finds all items, and what a caller of the command learns.
 #![tactic(auto)]
 
 #[cfg(test)]

@@ -21,6 +21,7 @@ const SECOND: &str =
 
 const FRACTION: &str = "a number in a server or a tag is neither an i64 nor a u64";
 
+// The fault has the text.
 fn is_said(rt: &(impl Abort + AllocGlobal), fault: MergeFault, expected: &str) {
     let told = format!(in rt.alloc(); "{fault}");
     is_text(rt, told.expect(rt, "memory for a text").as_str(), expected);
@@ -48,6 +49,7 @@ fn is_json(rt: &(impl Abort + AllocGlobal), document: &OpenApi, expected: &str) 
     );
 }
 
+// A copy of the document.
 fn copied(rt: &(impl Abort + AllocGlobal), document: &OpenApi) -> OpenApi {
     let copy = document.try_clone(rt.alloc());
     copy.expect(rt, "memory for a copy")
@@ -59,6 +61,7 @@ fn both(rt: &(impl Abort + AllocGlobal), first: &OpenApi, second: &OpenApi) -> V
     both.expect(rt, "memory for documents")
 }
 
+// Copies of both, as two leaves in brackets.
 fn joined(rt: &(impl Abort + AllocGlobal), first: &OpenApi, second: &OpenApi) -> Bracketing {
     let left = Box::new(rt.alloc(), Bracketing::Leaf(copied(rt, first)));
     let right = Box::new(rt.alloc(), Bracketing::Leaf(copied(rt, second)));
@@ -112,6 +115,7 @@ fn hold_a_fraction(rt: &(impl Abort + AllocGlobal), first: &OpenApi, second: &Op
     is_refused(rt, nested, FRACTION);
 }
 
+// In either of two documents.
 #[test]
 fn a_fraction_in_a_server_or_a_tag_is_refused(rt: HostRuntime) {
     let first = read::<OpenApi>(&rt, FIRST);
@@ -122,6 +126,7 @@ fn a_fraction_in_a_server_or_a_tag_is_refused(rt: HostRuntime) {
     hold_a_fraction(&rt, &first, &with_tags(&rt, SECOND));
 }
 
+// Nothing is compared there.
 #[test]
 fn a_document_alone_keeps_its_fraction(rt: HostRuntime) {
     let document = with_servers(&rt, FIRST);
@@ -150,6 +155,7 @@ fn with_others(rt: &(impl Abort + AllocGlobal)) -> OpenApi {
     document
 }
 
+// So the calls that merge two documents merge these.
 #[test]
 fn a_fraction_elsewhere_is_not_looked_for(rt: HostRuntime) {
     let first = read::<OpenApi>(&rt, FIRST);
@@ -173,6 +179,7 @@ fn a_fraction_elsewhere_is_not_looked_for(rt: HostRuntime) {
 const NESTED: &str =
     r#"{"info":{"title":"b","version":"1"},"openapi":"3.1.0","paths":{"/b":{"summary":"2"},"/a":{"summary":"2"},"/C":{"summary":"2"}}}"#;
 
+// It tells by a number at how many calls it is.
 #[test]
 fn a_composer_is_asked_in_the_order_of_the_paths(rt: HostRuntime) {
     let alloc = rt.alloc();
@@ -211,6 +218,7 @@ fn nested_but_one(
     document.nest_with_path_composer(alloc, "/v1", other, refusing)
 }
 
+// No path behind that is asked for.
 #[test]
 fn a_composer_is_asked_until_it_refuses(rt: HostRuntime) {
     let asked = Cell::new(0u64);
@@ -227,27 +235,13 @@ fn a_composer_is_asked_until_it_refuses(rt: HostRuntime) {
     assert_eq!(&rt; asked.get(), 2);
 }
 
-#[test]
-fn a_nested_item_stands_whole(rt: HostRuntime) {
-    let own =
-        r#"{"info":{"title":"a","version":"1"},"openapi":"3.1.0","paths":{"/a":{"get":{"responses":{}}},"/v1/a":{"get":{"responses":{}},"summary":"1"}}}"#;
-    let other =
-        r#"{"info":{"title":"b","version":"1"},"openapi":"3.1.0","paths":{"/a":{"post":{"responses":{}}}}}"#;
-    let document = read::<OpenApi>(&rt, own);
-    let nested = document.nest(rt.alloc(), "/v1", read::<OpenApi>(&rt, other));
-    is_written(
-        &rt,
-        nested.expect(&rt, "a document"),
-        r#"{"info":{"title":"a","version":"1"},"openapi":"3.1.0","paths":{"/a":{"get":{"responses":{}}},"/v1/a":{"post":{"responses":{}}}}}"#,
-    );
-}
-
 // A document with these paths, of which nothing else is said.
 fn of_paths(rt: &(impl Abort + AllocGlobal), json: &str) -> OpenApi {
     let info = Info::new(text(rt, "t"), text(rt, "1"));
     OpenApi::new(rt.alloc(), info, read(rt, json))
 }
 
+// By either of two brackets.
 #[test]
 fn a_merged_document_is_merged_on(rt: HostRuntime) {
     let first = of_paths(&rt, r#"{"/a":{}}"#);
@@ -264,18 +258,7 @@ fn a_merged_document_is_merged_on(rt: HostRuntime) {
     is_written(&rt, merged.expect(&rt, "a document"), all);
 }
 
-#[test]
-fn a_copy_and_a_new_document_add_nothing(rt: HostRuntime) {
-    let whole =
-        r#"{"$self":"u","components":{"schemas":{"S":{"type":"string"}},"x-c":1},"info":{"title":"t","version":"1"},"openapi":"3.2.0","paths":{"/a":{"get":{"responses":{}},"summary":"s"},"x-p":1},"security":[{},{}],"servers":[{"url":"u"},{"url":"u"}],"tags":[],"webhooks":{"w":{}},"x-d":1}"#;
-    let document = read::<OpenApi>(&rt, whole);
-    let copy = copied(&rt, &document);
-    let merged = document.merge_from(rt.alloc(), copy);
-    let merged = merged.expect(&rt, "a document");
-    let merged = merged.merge_from(rt.alloc(), OpenApiBuilder::new(rt.alloc()).build());
-    is_written(&rt, merged.expect(&rt, "a document"), whole);
-}
-
+// Also one that is made of a refusal of memory.
 #[test]
 fn a_fault_of_merging_says_why(rt: HostRuntime) {
     is_said(&rt, MergeFault::from(AllocError), "out of memory");

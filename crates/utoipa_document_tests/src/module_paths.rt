@@ -74,7 +74,7 @@ pub mod request_body {
 
 pub mod response {
     pub use utoipa::openapi::response::{
-        Response, ResponseBuilder, ResponseExt, Responses, ResponsesBuilder,
+        NameHasher, OrderedMap, Response, ResponseBuilder, ResponseExt, Responses, ResponsesBuilder,
     };
 }
 

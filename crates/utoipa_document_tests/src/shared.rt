@@ -8,6 +8,7 @@ use std::vec::IntoIter;
 use utoipa::openapi::extensions::Extensions;
 use utoipa::{ReadFault, Tree};
 
+/// The text in memory of its own.
 pub fn text(rt: &(impl Abort + AllocGlobal), word: &str) -> String {
     String::from_str(rt.alloc(), word).expect(rt, "memory for a text")
 }
@@ -50,6 +51,7 @@ pub fn is_written_first<T: Tree>(rt: &(impl Abort + AllocGlobal), value: &T, jso
     is_printed(rt, &copy, json);
 }
 
+// The tree that the value is written as has the text.
 fn is_printed<T: Tree>(rt: &(impl Abort + AllocGlobal), value: &T, json: &str) {
     let tree = value.to_value(rt.alloc()).expect(rt, "memory for a tree");
     let printed = tree.to_string(rt.alloc()).expect(rt, "memory for a text");
@@ -71,6 +73,7 @@ pub fn came_to<T: Tree>(
     }
 }
 
+/// The text is the expected one.
 pub fn is_text(rt: &impl Abort, found: &str, expected: &str) {
     assert_eq!(rt; found, expected);
 }

@@ -22,18 +22,18 @@ built_example b = b.example
 abbrev pub example_doc : Example → Doc
 example_doc e =
     table_doc example_object
-    (doc (text_of e.summary)
     (doc (text_of e.description)
-    (doc (option_of tree_of e.value)
-    (doc (text_of e.external_value) no_docs))))
+    (doc (text_of e.external_value)
+    (doc (text_of e.summary)
+    (doc (option_of tree_of e.value) no_docs))))
     (option_map extensions_view e.extensions)
 
 -- why an example is of its kind
 pub example_of_kind : (e : Example) → IsOf (example_doc e) (value_of (named example_object))
 example_of_kind e =
     table_of_kind _ _
-    (next_row (text_of_kind e.summary)
     (next_row (text_of_kind e.description)
-    (next_row (option_of_kind tree_of any tree_of_kind e.value)
-    (next_row (text_of_kind e.external_value) no_rows))))
+    (next_row (text_of_kind e.external_value)
+    (next_row (text_of_kind e.summary)
+    (next_row (option_of_kind tree_of any tree_of_kind e.value) no_rows))))
     (extends_of_kind (option_map extensions_view e.extensions))

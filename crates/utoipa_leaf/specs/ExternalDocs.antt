@@ -22,14 +22,14 @@ built_external_docs b = b.docs
 abbrev pub external_docs_doc : ExternalDocs → Doc
 external_docs_doc e =
     table_doc external_docs_object
-    (doc (text_of e.url)
-    (doc (option_of text_of e.description) no_docs))
+    (doc (option_of text_of e.description)
+    (doc (text_of e.url) no_docs))
     (option_map extensions_view e.extensions)
 
 -- each is a document of its table
 pub external_docs_of_kind : (e : ExternalDocs) → IsOf (external_docs_doc e) (value_of (named external_docs_object))
 external_docs_of_kind e =
     table_of_kind _ _
-    (next_row (text_of_kind e.url)
-    (next_row (option_of_kind text_of text text_of_kind e.description) no_rows))
+    (next_row (option_of_kind text_of text text_of_kind e.description)
+    (next_row (text_of_kind e.url) no_rows))
     (extends_of_kind (option_map extensions_view e.extensions))

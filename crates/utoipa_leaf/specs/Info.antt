@@ -42,29 +42,29 @@ built_license b = b.license
 abbrev pub contact_doc : Contact → Doc
 contact_doc c =
     table_doc contact_object
+    (doc (option_of text_of c.email)
     (doc (option_of text_of c.name)
-    (doc (option_of text_of c.url)
-    (doc (option_of text_of c.email) no_docs)))
+    (doc (option_of text_of c.url) no_docs)))
     (option_map extensions_view c.extensions)
 
 -- a license as a document
 abbrev pub license_doc : License → Doc
 license_doc l =
     table_doc license_object
+    (doc (option_of text_of l.identifier)
     (doc (text_of l.name)
-    (doc (option_of text_of l.url)
-    (doc (option_of text_of l.identifier) no_docs)))
+    (doc (option_of text_of l.url) no_docs)))
     (option_map extensions_view l.extensions)
 
 -- an info object as a document
 abbrev pub info_doc : Info → Doc
 info_doc i =
     table_doc info_object
-    (doc (text_of i.title)
-    (doc (option_of text_of i.description)
-    (doc (option_of text_of i.terms_of_service)
     (doc (option_of contact_doc i.contact)
+    (doc (option_of text_of i.description)
     (doc (option_of license_doc i.license)
+    (doc (option_of text_of i.terms_of_service)
+    (doc (text_of i.title)
     (doc (text_of i.version) no_docs))))))
     (option_map extensions_view i.extensions)
 
@@ -72,28 +72,28 @@ info_doc i =
 pub contact_of_kind : (c : Contact) → IsOf (contact_doc c) (value_of (named contact_object))
 contact_of_kind c =
     table_of_kind _ _
+    (next_row (option_of_kind text_of text text_of_kind c.email)
     (next_row (option_of_kind text_of text text_of_kind c.name)
-    (next_row (option_of_kind text_of text text_of_kind c.url)
-    (next_row (option_of_kind text_of text text_of_kind c.email) no_rows)))
+    (next_row (option_of_kind text_of text text_of_kind c.url) no_rows)))
     (extends_of_kind (option_map extensions_view c.extensions))
 
 -- why a license is of its kind
 pub license_of_kind : (l : License) → IsOf (license_doc l) (value_of (named license_object))
 license_of_kind l =
     table_of_kind _ _
+    (next_row (option_of_kind text_of text text_of_kind l.identifier)
     (next_row (text_of_kind l.name)
-    (next_row (option_of_kind text_of text text_of_kind l.url)
-    (next_row (option_of_kind text_of text text_of_kind l.identifier) no_rows)))
+    (next_row (option_of_kind text_of text text_of_kind l.url) no_rows)))
     (extends_of_kind (option_map extensions_view l.extensions))
 
 -- why an info object is of its kind
 pub info_of_kind : (i : Info) → IsOf (info_doc i) (value_of (named info_object))
 info_of_kind i =
     table_of_kind _ _
-    (next_row (text_of_kind i.title)
-    (next_row (option_of_kind text_of text text_of_kind i.description)
-    (next_row (option_of_kind text_of text text_of_kind i.terms_of_service)
     (next_row (option_of_kind contact_doc (named contact_object) contact_of_kind i.contact)
+    (next_row (option_of_kind text_of text text_of_kind i.description)
     (next_row (option_of_kind license_doc (named license_object) license_of_kind i.license)
+    (next_row (option_of_kind text_of text text_of_kind i.terms_of_service)
+    (next_row (text_of_kind i.title)
     (next_row (text_of_kind i.version) no_rows))))))
     (extends_of_kind (option_map extensions_view i.extensions))

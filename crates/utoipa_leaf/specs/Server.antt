@@ -48,9 +48,9 @@ server_variable_doc v =
 abbrev pub server_doc : Server → Doc
 server_doc s =
     table_doc server_object
-    (doc (text_of s.url)
     (doc (option_of text_of s.description)
     (doc (option_of text_of s.name)
+    (doc (text_of s.url)
     (doc (option_of (map_of_docs server_variable_doc) s.variables) no_docs))))
     (option_map extensions_view s.extensions)
 
@@ -65,8 +65,8 @@ server_variable_of_kind v =
 pub server_of_kind : (s : Server) → IsOf (server_doc s) (value_of (named server_object))
 server_of_kind s =
     table_of_kind _ _
-    (next_row (text_of_kind s.url)
     (next_row (option_of_kind text_of text text_of_kind s.description)
     (next_row (option_of_kind text_of text text_of_kind s.name)
+    (next_row (text_of_kind s.url)
     (next_row (option_of_kind (map_of_docs server_variable_doc) (map_of (named server_variable_object)) (map_of_kind server_variable_doc (named server_variable_object) server_variable_of_kind) s.variables) no_rows))))
     (extends_of_kind (option_map extensions_view s.extensions))

@@ -23,22 +23,22 @@ built_tag b = b.tag
 abbrev pub tag_doc : Tag → Doc
 tag_doc t =
     table_doc tag_object
-    (doc (text_of t.name)
-    (doc (option_of text_of t.summary)
     (doc (option_of text_of t.description)
-    (doc (option_of text_of t.parent)
+    (doc (option_of external_docs_doc t.external_docs)
     (doc (option_of text_of t.kind)
-    (doc (option_of external_docs_doc t.external_docs) no_docs))))))
+    (doc (text_of t.name)
+    (doc (option_of text_of t.parent)
+    (doc (option_of text_of t.summary) no_docs))))))
     (option_map extensions_view t.extensions)
 
 -- each is a document of its table
 pub tag_of_kind : (t : Tag) → IsOf (tag_doc t) (value_of (named tag_object))
 tag_of_kind t =
     table_of_kind _ _
-    (next_row (text_of_kind t.name)
-    (next_row (option_of_kind text_of text text_of_kind t.summary)
     (next_row (option_of_kind text_of text text_of_kind t.description)
-    (next_row (option_of_kind text_of text text_of_kind t.parent)
+    (next_row (option_of_kind external_docs_doc (named external_docs_object) external_docs_of_kind t.external_docs)
     (next_row (option_of_kind text_of text text_of_kind t.kind)
-    (next_row (option_of_kind external_docs_doc (named external_docs_object) external_docs_of_kind t.external_docs) no_rows))))))
+    (next_row (text_of_kind t.name)
+    (next_row (option_of_kind text_of text text_of_kind t.parent)
+    (next_row (option_of_kind text_of text text_of_kind t.summary) no_rows))))))
     (extends_of_kind (option_map extensions_view t.extensions))

@@ -1,30 +1,16 @@
 //! Examples.
-ghost use Rattle.std.specs.Prelude.{◌≡◌, [], refl, false, string_bytes};
+ghost use Rattle.std.specs.Prelude.{◌≡◌, [], false, string_bytes};
 ghost use Rattle.utoipa_base.specs.Kinds.{named, example_object};
 
-use json::Writer;
 use serde_json::Value;
 use std::alloc::{AllocError, Global};
 use utoipa_base::{
-    Extensions, Place, ReadFault, Readings, Tree, clone_table, from_fields, print_table,
-    read_table, row_names, row_values, write_table,
+    Documented, Emit, Extensions, JsonSink, Place, ReadFault, Readings, Tree, clone_table,
+    emit_table, from_fields, read_table, row_names, row_values,
 };
 
-// The rows of an example, in the order of its member table: mark, member, field.
+// The rows of an example, in the order of the members' names: mark, member, field.
 macro_rules! example_rows {
-    ($lines:ident!($($arguments:tt)*)) => {
-        $lines! {
-            $($arguments)*;
-            defaulted "summary" summary,
-            defaulted "description" description,
-            optional "value" value,
-            defaulted "externalValue" external_value,
-        }
-    };
-}
-
-// The same, in the order of the members' names.
-macro_rules! example_rows_by_name {
     ($lines:ident!($($arguments:tt)*)) => {
         $lines! {
             $($arguments)*;
@@ -62,12 +48,24 @@ impl Example {
     }
 }
 
-impl Tree for Example {
-    ghost use Rattle.utoipa_leaf.specs.Example.{example_doc, example_of_kind};
+impl Documented for Example {
+    ghost use Rattle.utoipa_leaf.specs.Example.{example_doc};
 
     ghost kind = { named example_object };
 
     ghost doc = { example_doc };
+}
+
+impl Emit for Example {
+    fn emit<S: JsonSink>(&self, out: &mut S) -> Result<(), AllocError> {
+        let names = example_rows!(row_names!());
+        let values = example_rows!(row_values!(self));
+        emit_table(out, names, &values, &self.extensions)
+    }
+}
+
+impl Tree for Example {
+    ghost use Rattle.utoipa_leaf.specs.Example.{example_of_kind};
 
     ghost is_of_kind = { example_of_kind };
 
@@ -79,18 +77,6 @@ impl Tree for Example {
         let names = example_rows!(row_names!());
         let (fields, extensions) = read_table(alloc, tree, "Example", names, readings)?;
         Ok(example_rows!(from_fields!(Example, fields, extensions)))
-    }
-
-    fn to_value(&self, alloc: Global) -> Result<Value, AllocError> {
-        let names = example_rows!(row_names!());
-        let values = example_rows!(row_values!(self));
-        write_table(alloc, names, &values, &self.extensions)
-    }
-
-    fn print(&self, alloc: Global, out: &mut Writer) -> Result<(), AllocError> {
-        let names = example_rows_by_name!(row_names!());
-        let values = example_rows_by_name!(row_values!(self));
-        print_table(alloc, out, names, &values, &self.extensions)
     }
 
     fn try_clone(&self, alloc: Global) -> Result<Example, AllocError> {

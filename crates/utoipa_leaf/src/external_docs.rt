@@ -1,29 +1,17 @@
 //! Documentation that stands elsewhere.
-ghost use Rattle.std.specs.Prelude.{◌≡◌, ◌↔◌, [], refl, false, IfOk, IsTrue, string_bytes};
+ghost use Rattle.std.specs.Prelude.{◌≡◌, ◌↔◌, [], false, IfOk, IsTrue, string_bytes};
 ghost use Rattle.utoipa_base.specs.Kinds.{named, external_docs_object};
 ghost use Rattle.utoipa_base.specs.WellFormed.{has_fraction};
 
-use json::Writer;
 use serde_json::Value;
 use std::alloc::{AllocError, Global};
 use utoipa_base::{
-    Extensions, ReadFault, Readings, Same, Tree, clone_table, from_fields, print_table, read_table,
-    row_names, row_values, same_table, table_has_fraction, write_table,
+    Documented, Emit, Extensions, JsonSink, ReadFault, Readings, Same, Tree, clone_table,
+    emit_table, from_fields, read_table, row_names, row_values, same_table, table_has_fraction,
 };
 
-// The rows of external documentation, in the order of its member table: mark, member, field.
+// The rows of external documentation, in the order of the members' names: mark, member, field.
 macro_rules! external_docs_rows {
-    ($lines:ident!($($arguments:tt)*)) => {
-        $lines! {
-            $($arguments)*;
-            required "url" url,
-            or_null "description" description,
-        }
-    };
-}
-
-// The same, in the order of the members' names.
-macro_rules! external_docs_rows_by_name {
     ($lines:ident!($($arguments:tt)*)) => {
         $lines! {
             $($arguments)*;
@@ -93,12 +81,24 @@ impl ExternalDocs {
     }
 }
 
-impl Tree for ExternalDocs {
-    ghost use Rattle.utoipa_leaf.specs.ExternalDocs.{external_docs_doc, external_docs_of_kind};
+impl Documented for ExternalDocs {
+    ghost use Rattle.utoipa_leaf.specs.ExternalDocs.{external_docs_doc};
 
     ghost kind = { named external_docs_object };
 
     ghost doc = { external_docs_doc };
+}
+
+impl Emit for ExternalDocs {
+    fn emit<S: JsonSink>(&self, out: &mut S) -> Result<(), AllocError> {
+        let names = external_docs_rows!(row_names!());
+        let values = external_docs_rows!(row_values!(self));
+        emit_table(out, names, &values, &self.extensions)
+    }
+}
+
+impl Tree for ExternalDocs {
+    ghost use Rattle.utoipa_leaf.specs.ExternalDocs.{external_docs_of_kind};
 
     ghost is_of_kind = { external_docs_of_kind };
 
@@ -110,18 +110,6 @@ impl Tree for ExternalDocs {
         let names = external_docs_rows!(row_names!());
         let (fields, extensions) = read_table(alloc, tree, "ExternalDocs", names, readings)?;
         Ok(external_docs_rows!(from_fields!(ExternalDocs, fields, extensions)))
-    }
-
-    fn to_value(&self, alloc: Global) -> Result<Value, AllocError> {
-        let names = external_docs_rows!(row_names!());
-        let values = external_docs_rows!(row_values!(self));
-        write_table(alloc, names, &values, &self.extensions)
-    }
-
-    fn print(&self, alloc: Global, out: &mut Writer) -> Result<(), AllocError> {
-        let names = external_docs_rows_by_name!(row_names!());
-        let values = external_docs_rows_by_name!(row_values!(self));
-        print_table(alloc, out, names, &values, &self.extensions)
     }
 
     fn try_clone(&self, alloc: Global) -> Result<ExternalDocs, AllocError> {

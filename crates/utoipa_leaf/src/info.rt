@@ -1,32 +1,16 @@
 //! What is said of an API as a whole, with its contact and its license.
-ghost use Rattle.std.specs.Prelude.{◌≡◌, [], refl, false, string_bytes};
+ghost use Rattle.std.specs.Prelude.{◌≡◌, [], string_bytes};
 ghost use Rattle.utoipa_base.specs.Kinds.{named, info_object, contact_object, license_object};
 
-use json::Writer;
 use serde_json::Value;
 use std::alloc::{AllocError, Global};
 use utoipa_base::{
-    Extensions, ReadFault, Readings, Tree, clone_table, from_fields, print_table, read_table,
-    row_names, row_values, write_table,
+    Documented, Emit, Extensions, JsonSink, ReadFault, Readings, Tree, clone_table, emit_table,
+    from_fields, read_table, row_names, row_values,
 };
 
-// The rows of an info object, in the order of its member table: mark, member, field.
+// The rows of an info object, in the order of the members' names: mark, member, field.
 macro_rules! info_rows {
-    ($lines:ident!($($arguments:tt)*)) => {
-        $lines! {
-            $($arguments)*;
-            required "title" title,
-            optional "description" description,
-            optional "termsOfService" terms_of_service,
-            optional "contact" contact,
-            optional "license" license,
-            required "version" version,
-        }
-    };
-}
-
-// The same, in the order of the members' names.
-macro_rules! info_rows_by_name {
     ($lines:ident!($($arguments:tt)*)) => {
         $lines! {
             $($arguments)*;
@@ -59,20 +43,8 @@ pub struct Info {
     pub extensions: Option<Extensions>,
 }
 
-// The rows of a contact, in the order of its member table: mark, member, field.
+// The rows of a contact, in the order of the members' names: mark, member, field.
 macro_rules! contact_rows {
-    ($lines:ident!($($arguments:tt)*)) => {
-        $lines! {
-            $($arguments)*;
-            optional "name" name,
-            optional "url" url,
-            optional "email" email,
-        }
-    };
-}
-
-// The same, in the order of the members' names.
-macro_rules! contact_rows_by_name {
     ($lines:ident!($($arguments:tt)*)) => {
         $lines! {
             $($arguments)*;
@@ -96,20 +68,8 @@ pub struct Contact {
     pub extensions: Option<Extensions>,
 }
 
-// The rows of a license, in the order of its member table: mark, member, field.
+// The rows of a license, in the order of the members' names: mark, member, field.
 macro_rules! license_rows {
-    ($lines:ident!($($arguments:tt)*)) => {
-        $lines! {
-            $($arguments)*;
-            required "name" name,
-            optional "url" url,
-            optional "identifier" identifier,
-        }
-    };
-}
-
-// The same, in the order of the members' names.
-macro_rules! license_rows_by_name {
     ($lines:ident!($($arguments:tt)*)) => {
         $lines! {
             $($arguments)*;
@@ -205,12 +165,24 @@ impl License {
     }
 }
 
-impl Tree for Contact {
-    ghost use Rattle.utoipa_leaf.specs.Info.{contact_doc, contact_of_kind};
+impl Documented for Contact {
+    ghost use Rattle.utoipa_leaf.specs.Info.{contact_doc};
 
     ghost kind = { named contact_object };
 
     ghost doc = { contact_doc };
+}
+
+impl Emit for Contact {
+    fn emit<S: JsonSink>(&self, out: &mut S) -> Result<(), AllocError> {
+        let names = contact_rows!(row_names!());
+        let values = contact_rows!(row_values!(self));
+        emit_table(out, names, &values, &self.extensions)
+    }
+}
+
+impl Tree for Contact {
+    ghost use Rattle.utoipa_leaf.specs.Info.{contact_of_kind};
 
     ghost is_of_kind = { contact_of_kind };
 
@@ -224,29 +196,29 @@ impl Tree for Contact {
         Ok(contact_rows!(from_fields!(Contact, fields, extensions)))
     }
 
-    fn to_value(&self, alloc: Global) -> Result<Value, AllocError> {
-        let names = contact_rows!(row_names!());
-        let values = contact_rows!(row_values!(self));
-        write_table(alloc, names, &values, &self.extensions)
-    }
-
-    fn print(&self, alloc: Global, out: &mut Writer) -> Result<(), AllocError> {
-        let names = contact_rows_by_name!(row_names!());
-        let values = contact_rows_by_name!(row_values!(self));
-        print_table(alloc, out, names, &values, &self.extensions)
-    }
-
     fn try_clone(&self, alloc: Global) -> Result<Contact, AllocError> {
         contact_rows!(clone_table!(Contact, self, alloc))
     }
 }
 
-impl Tree for License {
-    ghost use Rattle.utoipa_leaf.specs.Info.{license_doc, license_of_kind};
+impl Documented for License {
+    ghost use Rattle.utoipa_leaf.specs.Info.{license_doc};
 
     ghost kind = { named license_object };
 
     ghost doc = { license_doc };
+}
+
+impl Emit for License {
+    fn emit<S: JsonSink>(&self, out: &mut S) -> Result<(), AllocError> {
+        let names = license_rows!(row_names!());
+        let values = license_rows!(row_values!(self));
+        emit_table(out, names, &values, &self.extensions)
+    }
+}
+
+impl Tree for License {
+    ghost use Rattle.utoipa_leaf.specs.Info.{license_of_kind};
 
     ghost is_of_kind = { license_of_kind };
 
@@ -260,29 +232,29 @@ impl Tree for License {
         Ok(license_rows!(from_fields!(License, fields, extensions)))
     }
 
-    fn to_value(&self, alloc: Global) -> Result<Value, AllocError> {
-        let names = license_rows!(row_names!());
-        let values = license_rows!(row_values!(self));
-        write_table(alloc, names, &values, &self.extensions)
-    }
-
-    fn print(&self, alloc: Global, out: &mut Writer) -> Result<(), AllocError> {
-        let names = license_rows_by_name!(row_names!());
-        let values = license_rows_by_name!(row_values!(self));
-        print_table(alloc, out, names, &values, &self.extensions)
-    }
-
     fn try_clone(&self, alloc: Global) -> Result<License, AllocError> {
         license_rows!(clone_table!(License, self, alloc))
     }
 }
 
-impl Tree for Info {
-    ghost use Rattle.utoipa_leaf.specs.Info.{info_doc, info_of_kind};
+impl Documented for Info {
+    ghost use Rattle.utoipa_leaf.specs.Info.{info_doc};
 
     ghost kind = { named info_object };
 
     ghost doc = { info_doc };
+}
+
+impl Emit for Info {
+    fn emit<S: JsonSink>(&self, out: &mut S) -> Result<(), AllocError> {
+        let names = info_rows!(row_names!());
+        let values = info_rows!(row_values!(self));
+        emit_table(out, names, &values, &self.extensions)
+    }
+}
+
+impl Tree for Info {
+    ghost use Rattle.utoipa_leaf.specs.Info.{info_of_kind};
 
     ghost is_of_kind = { info_of_kind };
 
@@ -290,18 +262,6 @@ impl Tree for Info {
         let names = info_rows!(row_names!());
         let (fields, extensions) = read_table(alloc, tree, "Info", names, readings)?;
         Ok(info_rows!(from_fields!(Info, fields, extensions)))
-    }
-
-    fn to_value(&self, alloc: Global) -> Result<Value, AllocError> {
-        let names = info_rows!(row_names!());
-        let values = info_rows!(row_values!(self));
-        write_table(alloc, names, &values, &self.extensions)
-    }
-
-    fn print(&self, alloc: Global, out: &mut Writer) -> Result<(), AllocError> {
-        let names = info_rows_by_name!(row_names!());
-        let values = info_rows_by_name!(row_values!(self));
-        print_table(alloc, out, names, &values, &self.extensions)
     }
 
     fn try_clone(&self, alloc: Global) -> Result<Info, AllocError> {

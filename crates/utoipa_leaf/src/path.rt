@@ -1,11 +1,12 @@
 //! The words of paths and their parameters.
-ghost use Rattle.std.specs.Prelude.{refl, false};
+ghost use Rattle.std.specs.Prelude.{refl};
 ghost use Rattle.utoipa_base.specs.Kinds.{word_of, http_method, parameter_in, parameter_style};
 
-use json::Writer;
 use serde_json::Value;
 use std::alloc::{AllocError, Global};
-use utoipa_base::{ReadFault, Readings, Tree, Word, print_word, read_word, write_word};
+use utoipa_base::{
+    Documented, Emit, JsonSink, ReadFault, Readings, Tree, Word, emit_word, read_word,
+};
 
 /// The HTTP method of an operation: the field of a Path Item Object (OpenAPI 3.1, section 4.8.9) under which it stands.
 ///
@@ -71,13 +72,24 @@ impl Word for HttpMethod {
     }
 }
 
-#[tactic(auto, using(utoipa_base::proofs::ByWords::by_words))]
-impl Tree for HttpMethod {
-    ghost use Rattle.utoipa_leaf.specs.Path.{http_method_doc, http_method_of_kind};
+impl Documented for HttpMethod {
+    ghost use Rattle.utoipa_leaf.specs.Path.{http_method_doc};
 
     ghost kind = { word_of http_method };
 
     ghost doc = { http_method_doc };
+}
+
+#[tactic(auto, using(utoipa_base::proofs::ByWords::by_words))]
+impl Emit for HttpMethod {
+    fn emit<S: JsonSink>(&self, out: &mut S) -> Result<(), AllocError> {
+        emit_word(out, self)
+    }
+}
+
+#[tactic(auto, using(utoipa_base::proofs::ByWords::by_words))]
+impl Tree for HttpMethod {
+    ghost use Rattle.utoipa_leaf.specs.Path.{http_method_of_kind};
 
     ghost is_of_kind = { http_method_of_kind };
 
@@ -87,14 +99,6 @@ impl Tree for HttpMethod {
         _readings: &mut Readings,
     ) -> Result<HttpMethod, ReadFault> {
         read_word(tree, "HttpMethod")
-    }
-
-    fn to_value(&self, alloc: Global) -> Result<Value, AllocError> {
-        write_word(alloc, self)
-    }
-
-    fn print(&self, _alloc: Global, out: &mut Writer) -> Result<(), AllocError> {
-        print_word(out, self)
     }
 
     fn try_clone(&self, _alloc: Global) -> Result<HttpMethod, AllocError> {
@@ -153,13 +157,24 @@ impl Word for ParameterIn {
     }
 }
 
-#[tactic(auto, using(utoipa_base::proofs::ByWords::by_words))]
-impl Tree for ParameterIn {
-    ghost use Rattle.utoipa_leaf.specs.Path.{parameter_in_doc, parameter_in_of_kind};
+impl Documented for ParameterIn {
+    ghost use Rattle.utoipa_leaf.specs.Path.{parameter_in_doc};
 
     ghost kind = { word_of parameter_in };
 
     ghost doc = { parameter_in_doc };
+}
+
+#[tactic(auto, using(utoipa_base::proofs::ByWords::by_words))]
+impl Emit for ParameterIn {
+    fn emit<S: JsonSink>(&self, out: &mut S) -> Result<(), AllocError> {
+        emit_word(out, self)
+    }
+}
+
+#[tactic(auto, using(utoipa_base::proofs::ByWords::by_words))]
+impl Tree for ParameterIn {
+    ghost use Rattle.utoipa_leaf.specs.Path.{parameter_in_of_kind};
 
     ghost is_of_kind = { parameter_in_of_kind };
 
@@ -169,14 +184,6 @@ impl Tree for ParameterIn {
         _readings: &mut Readings,
     ) -> Result<ParameterIn, ReadFault> {
         read_word(tree, "ParameterIn")
-    }
-
-    fn to_value(&self, alloc: Global) -> Result<Value, AllocError> {
-        write_word(alloc, self)
-    }
-
-    fn print(&self, _alloc: Global, out: &mut Writer) -> Result<(), AllocError> {
-        print_word(out, self)
     }
 
     fn try_clone(&self, _alloc: Global) -> Result<ParameterIn, AllocError> {
@@ -246,13 +253,24 @@ impl Word for ParameterStyle {
     }
 }
 
-#[tactic(auto, using(utoipa_base::proofs::ByWords::by_words))]
-impl Tree for ParameterStyle {
-    ghost use Rattle.utoipa_leaf.specs.Path.{parameter_style_doc, parameter_style_of_kind};
+impl Documented for ParameterStyle {
+    ghost use Rattle.utoipa_leaf.specs.Path.{parameter_style_doc};
 
     ghost kind = { word_of parameter_style };
 
     ghost doc = { parameter_style_doc };
+}
+
+#[tactic(auto, using(utoipa_base::proofs::ByWords::by_words))]
+impl Emit for ParameterStyle {
+    fn emit<S: JsonSink>(&self, out: &mut S) -> Result<(), AllocError> {
+        emit_word(out, self)
+    }
+}
+
+#[tactic(auto, using(utoipa_base::proofs::ByWords::by_words))]
+impl Tree for ParameterStyle {
+    ghost use Rattle.utoipa_leaf.specs.Path.{parameter_style_of_kind};
 
     ghost is_of_kind = { parameter_style_of_kind };
 
@@ -262,14 +280,6 @@ impl Tree for ParameterStyle {
         _readings: &mut Readings,
     ) -> Result<ParameterStyle, ReadFault> {
         read_word(tree, "ParameterStyle")
-    }
-
-    fn to_value(&self, alloc: Global) -> Result<Value, AllocError> {
-        write_word(alloc, self)
-    }
-
-    fn print(&self, _alloc: Global, out: &mut Writer) -> Result<(), AllocError> {
-        print_word(out, self)
     }
 
     fn try_clone(&self, _alloc: Global) -> Result<ParameterStyle, AllocError> {

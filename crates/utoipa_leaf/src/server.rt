@@ -1,33 +1,20 @@
 //! Servers, and the variables of their URLs.
-ghost use Rattle.std.specs.Prelude.{◌≡◌, ◌↔◌, [], refl, false, None, Some, Option, IfOk, IsTrue, string_bytes, string_cmp};
+ghost use Rattle.std.specs.Prelude.{◌≡◌, ◌↔◌, [], false, None, Some, Option, IfOk, IsTrue, string_bytes, string_cmp};
 ghost use Rattle.std.specs.Option.{ForSome};
 ghost use Rattle.utoipa_base.specs.Kinds.{named, server_object, server_variable_object};
 ghost use Rattle.utoipa_base.specs.WellFormed.{has_fraction};
 
-use json::Writer;
 use serde_json::Value;
 use std::alloc::{AllocError, Global};
 use std::collections::BTreeMap;
 use utoipa_base::{
-    Extensions, ReadFault, Readings, Same, Tree, clone_table, from_fields, list_if_any,
-    print_table, read_table, row_names, row_values, same_table, table_has_fraction, write_table,
+    Documented, Emit, Extensions, JsonSink, ReadFault, Readings, Same, Tree, clone_table,
+    emit_table, from_fields, list_if_any, read_table, row_names, row_values, same_table,
+    table_has_fraction,
 };
 
-// The rows of a server, in the order of its member table: mark, member, field.
+// The rows of a server, in the order of the members' names: mark, member, field.
 macro_rules! server_rows {
-    ($lines:ident!($($arguments:tt)*)) => {
-        $lines! {
-            $($arguments)*;
-            required "url" url,
-            optional "description" description,
-            optional "name" name,
-            optional "variables" variables,
-        }
-    };
-}
-
-// The same, in the order of the members' names.
-macro_rules! server_rows_by_name {
     ($lines:ident!($($arguments:tt)*)) => {
         $lines! {
             $($arguments)*;
@@ -54,7 +41,7 @@ pub struct Server {
     pub extensions: Option<Extensions>,
 }
 
-// The rows of a server variable, in the order of its member table, which is that of their names: mark, member, field.
+// The rows of a server variable, in the order of the members' names: mark, member, field.
 macro_rules! server_variable_rows {
     ($lines:ident!($($arguments:tt)*)) => {
         $lines! {
@@ -150,12 +137,24 @@ impl ServerVariable {
     }
 }
 
-impl Tree for ServerVariable {
-    ghost use Rattle.utoipa_leaf.specs.Server.{server_variable_doc, server_variable_of_kind};
+impl Documented for ServerVariable {
+    ghost use Rattle.utoipa_leaf.specs.Server.{server_variable_doc};
 
     ghost kind = { named server_variable_object };
 
     ghost doc = { server_variable_doc };
+}
+
+impl Emit for ServerVariable {
+    fn emit<S: JsonSink>(&self, out: &mut S) -> Result<(), AllocError> {
+        let names = server_variable_rows!(row_names!());
+        let values = server_variable_rows!(row_values!(self));
+        emit_table(out, names, &values, &self.extensions)
+    }
+}
+
+impl Tree for ServerVariable {
+    ghost use Rattle.utoipa_leaf.specs.Server.{server_variable_of_kind};
 
     ghost is_of_kind = { server_variable_of_kind };
 
@@ -169,29 +168,29 @@ impl Tree for ServerVariable {
         Ok(server_variable_rows!(from_fields!(ServerVariable, fields, extensions)))
     }
 
-    fn to_value(&self, alloc: Global) -> Result<Value, AllocError> {
-        let names = server_variable_rows!(row_names!());
-        let values = server_variable_rows!(row_values!(self));
-        write_table(alloc, names, &values, &self.extensions)
-    }
-
-    fn print(&self, alloc: Global, out: &mut Writer) -> Result<(), AllocError> {
-        let names = server_variable_rows!(row_names!());
-        let values = server_variable_rows!(row_values!(self));
-        print_table(alloc, out, names, &values, &self.extensions)
-    }
-
     fn try_clone(&self, alloc: Global) -> Result<ServerVariable, AllocError> {
         server_variable_rows!(clone_table!(ServerVariable, self, alloc))
     }
 }
 
-impl Tree for Server {
-    ghost use Rattle.utoipa_leaf.specs.Server.{server_doc, server_of_kind};
+impl Documented for Server {
+    ghost use Rattle.utoipa_leaf.specs.Server.{server_doc};
 
     ghost kind = { named server_object };
 
     ghost doc = { server_doc };
+}
+
+impl Emit for Server {
+    fn emit<S: JsonSink>(&self, out: &mut S) -> Result<(), AllocError> {
+        let names = server_rows!(row_names!());
+        let values = server_rows!(row_values!(self));
+        emit_table(out, names, &values, &self.extensions)
+    }
+}
+
+impl Tree for Server {
+    ghost use Rattle.utoipa_leaf.specs.Server.{server_of_kind};
 
     ghost is_of_kind = { server_of_kind };
 
@@ -203,18 +202,6 @@ impl Tree for Server {
         let names = server_rows!(row_names!());
         let (fields, extensions) = read_table(alloc, tree, "Server", names, readings)?;
         Ok(server_rows!(from_fields!(Server, fields, extensions)))
-    }
-
-    fn to_value(&self, alloc: Global) -> Result<Value, AllocError> {
-        let names = server_rows!(row_names!());
-        let values = server_rows!(row_values!(self));
-        write_table(alloc, names, &values, &self.extensions)
-    }
-
-    fn print(&self, alloc: Global, out: &mut Writer) -> Result<(), AllocError> {
-        let names = server_rows_by_name!(row_names!());
-        let values = server_rows_by_name!(row_values!(self));
-        print_table(alloc, out, names, &values, &self.extensions)
     }
 
     fn try_clone(&self, alloc: Global) -> Result<Server, AllocError> {

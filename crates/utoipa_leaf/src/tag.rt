@@ -1,34 +1,18 @@
 //! Tags of operations.
-ghost use Rattle.std.specs.Prelude.{◌≡◌, ◌↔◌, [], refl, false, IfOk, IsTrue, string_bytes};
+ghost use Rattle.std.specs.Prelude.{◌≡◌, ◌↔◌, [], false, IfOk, IsTrue, string_bytes};
 ghost use Rattle.utoipa_base.specs.Kinds.{named, tag_object};
 ghost use Rattle.utoipa_base.specs.WellFormed.{has_fraction};
 
 use crate::external_docs::ExternalDocs;
-use json::Writer;
 use serde_json::Value;
 use std::alloc::{AllocError, Global};
 use utoipa_base::{
-    Extensions, ReadFault, Readings, Same, Tree, clone_table, from_fields, print_table, read_table,
-    row_names, row_values, same_table, table_has_fraction, write_table,
+    Documented, Emit, Extensions, JsonSink, ReadFault, Readings, Same, Tree, clone_table,
+    emit_table, from_fields, read_table, row_names, row_values, same_table, table_has_fraction,
 };
 
-// The rows of a tag, in the order of its member table: mark, member, field.
+// The rows of a tag, in the order of the members' names: mark, member, field.
 macro_rules! tag_rows {
-    ($lines:ident!($($arguments:tt)*)) => {
-        $lines! {
-            $($arguments)*;
-            required "name" name,
-            optional "summary" summary,
-            optional "description" description,
-            optional "parent" parent,
-            optional "kind" kind,
-            optional "externalDocs" external_docs,
-        }
-    };
-}
-
-// The same, in the order of the members' names.
-macro_rules! tag_rows_by_name {
     ($lines:ident!($($arguments:tt)*)) => {
         $lines! {
             $($arguments)*;
@@ -114,12 +98,24 @@ impl Tag {
     }
 }
 
-impl Tree for Tag {
-    ghost use Rattle.utoipa_leaf.specs.Tag.{tag_doc, tag_of_kind};
+impl Documented for Tag {
+    ghost use Rattle.utoipa_leaf.specs.Tag.{tag_doc};
 
     ghost kind = { named tag_object };
 
     ghost doc = { tag_doc };
+}
+
+impl Emit for Tag {
+    fn emit<S: JsonSink>(&self, out: &mut S) -> Result<(), AllocError> {
+        let names = tag_rows!(row_names!());
+        let values = tag_rows!(row_values!(self));
+        emit_table(out, names, &values, &self.extensions)
+    }
+}
+
+impl Tree for Tag {
+    ghost use Rattle.utoipa_leaf.specs.Tag.{tag_of_kind};
 
     ghost is_of_kind = { tag_of_kind };
 
@@ -127,18 +123,6 @@ impl Tree for Tag {
         let names = tag_rows!(row_names!());
         let (fields, extensions) = read_table(alloc, tree, "Tag", names, readings)?;
         Ok(tag_rows!(from_fields!(Tag, fields, extensions)))
-    }
-
-    fn to_value(&self, alloc: Global) -> Result<Value, AllocError> {
-        let names = tag_rows!(row_names!());
-        let values = tag_rows!(row_values!(self));
-        write_table(alloc, names, &values, &self.extensions)
-    }
-
-    fn print(&self, alloc: Global, out: &mut Writer) -> Result<(), AllocError> {
-        let names = tag_rows_by_name!(row_names!());
-        let values = tag_rows_by_name!(row_values!(self));
-        print_table(alloc, out, names, &values, &self.extensions)
     }
 
     fn try_clone(&self, alloc: Global) -> Result<Tag, AllocError> {

@@ -1,18 +1,16 @@
 //! The version of the standard that a document follows.
-ghost use Rattle.std.specs.Prelude.{◌≡◌, ℤ, List, ◌∷◌, [], refl, true, false, Some, is_some, option_map, IfOk, IfErr};
+ghost use Rattle.std.specs.Prelude.{◌≡◌, ℤ, List, ◌∷◌, [], true, false, Some, is_some, option_map, IfOk, IfErr};
 ghost use Rattle.serde_json.specs.Find.{as_str};
 ghost use Rattle.serde_json.specs.View.{view};
-ghost use Rattle.utoipa_base.specs.Docs.{word_doc};
 ghost use Rattle.utoipa_base.specs.Faults.{Refuses};
 ghost use Rattle.utoipa_base.specs.Kinds.{version};
 ghost use Rattle.utoipa_base.specs.Reading.{read};
 ghost use Rattle.utoipa_base.specs.Version.{read_version, piece_number, and_number};
 ghost use Rattle.utoipa_leaf.specs.Version.{version_text, version_doc, version_of_kind, version_after};
 
-use json::Writer;
 use serde_json::Value;
 use std::alloc::{AllocError, Global};
-use utoipa_base::{ReadFault, Readings, Tree};
+use utoipa_base::{Documented, Emit, JsonSink, ReadFault, Readings, Tree};
 
 /// The version of the OpenAPI Specification that a document follows: the field `openapi` of an OpenAPI Object (OpenAPI
 /// 3.1, section 4.8.1).
@@ -124,12 +122,21 @@ fn read_named(tree: &Value, name: &'static str) -> Result<OpenApiVersion, ReadFa
     }
 }
 
-#[tactic(auto, using(crate::proofs::Versions::by_version, utoipa_base::proofs::Tokens::by_tokens))]
-impl Tree for OpenApiVersion {
+impl Documented for OpenApiVersion {
     ghost kind = { version };
 
     ghost doc = { version_doc };
+}
 
+#[tactic(auto, using(utoipa_base::proofs::Sending::by_sending))]
+impl Emit for OpenApiVersion {
+    fn emit<S: JsonSink>(&self, out: &mut S) -> Result<(), AllocError> {
+        out.string(self.as_text())
+    }
+}
+
+#[tactic(auto, using(crate::proofs::Versions::by_version))]
+impl Tree for OpenApiVersion {
     ghost is_of_kind = { version_of_kind };
 
     fn read_plain(
@@ -138,14 +145,6 @@ impl Tree for OpenApiVersion {
         _readings: &mut Readings,
     ) -> Result<OpenApiVersion, ReadFault> {
         read_named(tree, "OpenApiVersion")
-    }
-
-    fn to_value(&self, alloc: Global) -> Result<Value, AllocError> {
-        Value::try_from_str(alloc, self.as_text())
-    }
-
-    fn print(&self, _alloc: Global, out: &mut Writer) -> Result<(), AllocError> {
-        out.string(self.as_text())
     }
 
     fn try_clone(&self, _alloc: Global) -> Result<OpenApiVersion, AllocError> {

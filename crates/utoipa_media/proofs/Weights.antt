@@ -37,22 +37,3 @@ lighter_encoding e =
 pub lighter_header : (h : Header) → weight (map_of_docs (ref_or_doc (named media_type_object) content_doc) (out-Header h).content) < weight (header_doc h)
 unfolding weight docs_weight
 lighter_header h = omega arith
-
--- each member that holds encodings, or headers
-pub held_by_content : (c : Content) → (weight (map_of_docs encoding_doc (out-Content c).encoding) < weight (content_doc c))
-    × (weight (list_of_docs encoding_doc (out-Content c).prefix_encoding) < weight (content_doc c))
-    × (weight (option_of (boxed encoding_doc) (out-Content c).item_encoding) < weight (content_doc c))
-held_by_content c =
-    let x = out-Content c in
-    let each = lighter_encodings x.encoding x.prefix_encoding x.item_encoding in
-    (omega (arith, each.0, lighter_content c), omega (arith, each.1, lighter_content c), omega (arith, each.2, lighter_content c))
-
-pub held_by_encoding : (e : Encoding) → (weight (map_of_docs (ref_or_doc (named header_object) header_doc) (out-Encoding e).headers) < weight (encoding_doc e))
-    × (weight (map_of_docs encoding_doc (out-Encoding e).encoding) < weight (encoding_doc e))
-    × (weight (list_of_docs encoding_doc (out-Encoding e).prefix_encoding) < weight (encoding_doc e))
-    × (weight (option_of (boxed encoding_doc) (out-Encoding e).item_encoding) < weight (encoding_doc e))
-held_by_encoding e =
-    let x = out-Encoding e in
-    let each = lighter_encodings x.encoding x.prefix_encoding x.item_encoding in
-    let lighter = lighter_encoding e in
-    (lighter.0, omega (arith, each.0, lighter.1), omega (arith, each.1, lighter.1), omega (arith, each.2, lighter.1))

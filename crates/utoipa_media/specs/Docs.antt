@@ -23,14 +23,14 @@ use Rattle.utoipa_media.specs.declared.types.Header.{Header, Header-F, out-Heade
 abbrev pub content_table : {C E H : Type 0} → Doc → Doc → Doc → Content-F C E H → Doc
 content_table encoding prefix_encoding item_encoding c =
     table_doc media_type_object
-    (doc (option_of (ref_or_doc schema schema_doc) c.schema)
-    (doc (option_of (ref_or_doc schema schema_doc) c.item_schema)
     (doc (option_of text_of c.description)
+    (doc encoding
     (doc (option_of tree_of c.example)
     (doc (map_of_docs (ref_or_doc (named example_object) example_doc) c.examples)
-    (doc encoding
+    (doc item_encoding
+    (doc (option_of (ref_or_doc schema schema_doc) c.item_schema)
     (doc prefix_encoding
-    (doc item_encoding no_docs))))))))
+    (doc (option_of (ref_or_doc schema schema_doc) c.schema) no_docs))))))))
     (option_map extensions_view c.extensions)
 
 abbrev pub content_layer : {C E H : Type 0} → (E → Doc) → Content-F C E H → Doc
@@ -40,14 +40,14 @@ content_layer f c = content_table (map_of_docs f c.encoding) (list_of_docs f c.p
 abbrev pub encoding_table : {C E H : Type 0} → Doc → Doc → Doc → Doc → Encoding-F C E H → Doc
 encoding_table headers encoding prefix_encoding item_encoding e =
     table_doc encoding_object
-    (doc (option_of text_of e.content_type)
-    (doc headers
-    (doc (option_of parameter_style_doc e.style)
-    (doc (option_of flag_doc e.explode)
     (doc (option_of flag_doc e.allow_reserved)
+    (doc (option_of text_of e.content_type)
     (doc encoding
+    (doc (option_of flag_doc e.explode)
+    (doc headers
+    (doc item_encoding
     (doc prefix_encoding
-    (doc item_encoding no_docs))))))))
+    (doc (option_of parameter_style_doc e.style) no_docs))))))))
     (option_map extensions_view e.extensions)
 
 abbrev pub encoding_layer : {C E H : Type 0} → (H → Doc) → (E → Doc) → Encoding-F C E H → Doc
@@ -58,14 +58,14 @@ encoding_layer h f e =
 abbrev pub header_table : {C E H : Type 0} → Doc → Header-F C E H → Doc
 header_table content h =
     table_doc header_object
-    (doc (option_of (ref_or_doc schema schema_doc) h.schema)
-    (doc (option_of text_of h.description)
+    (doc content
     (doc (option_of deprecated_doc h.deprecated)
-    (doc (option_of parameter_style_doc h.style)
-    (doc (option_of flag_doc h.explode)
+    (doc (option_of text_of h.description)
     (doc (option_of tree_of h.example)
     (doc (map_of_docs (ref_or_doc (named example_object) example_doc) h.examples)
-    (doc content no_docs))))))))
+    (doc (option_of flag_doc h.explode)
+    (doc (option_of (ref_or_doc schema schema_doc) h.schema)
+    (doc (option_of parameter_style_doc h.style) no_docs))))))))
     (option_map extensions_view h.extensions)
 
 abbrev pub header_layer : {C E H : Type 0} → (C → Doc) → Header-F C E H → Doc

@@ -36,11 +36,11 @@ IsEmptyLink l =
 abbrev pub link_doc : Link → Doc
 link_doc l =
     table_doc link_object
-    (doc (text_of l.operation_ref)
+    (doc (text_of l.description)
     (doc (text_of l.operation_id)
+    (doc (text_of l.operation_ref)
     (doc (map_of_docs tree_of l.parameters)
     (doc (option_of tree_of l.request_body)
-    (doc (text_of l.description)
     (doc (option_of server_doc l.server) no_docs))))))
     (option_map extensions_view l.extensions)
 
@@ -48,10 +48,10 @@ link_doc l =
 pub link_of_kind : (l : Link) → IsOf (link_doc l) (value_of (named link_object))
 link_of_kind l =
     table_of_kind _ _
-    (next_row (text_of_kind l.operation_ref)
+    (next_row (text_of_kind l.description)
     (next_row (text_of_kind l.operation_id)
+    (next_row (text_of_kind l.operation_ref)
     (next_row (map_of_kind tree_of any tree_of_kind l.parameters)
     (next_row (option_of_kind tree_of any tree_of_kind l.request_body)
-    (next_row (text_of_kind l.description)
     (next_row (option_of_kind server_doc (named server_object) server_of_kind l.server) no_rows))))))
     (extends_of_kind (option_map extensions_view l.extensions))

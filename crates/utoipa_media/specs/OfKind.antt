@@ -22,41 +22,41 @@ use Rattle.utoipa_media.specs.declared.types.Header.{Header, Header-F, out-Heade
 content_layer_of_kind : {C E H : Type 0} (f : E → Doc) → ((e : E) → IsOf (f e) (value_of (named encoding_object))) → (x : Content-F C E H) → IsOf (content_layer f x) (value_of (named media_type_object))
 content_layer_of_kind f each x =
     table_of_kind _ _
-    (next_row (option_of_kind (ref_or_doc schema schema_doc) (ref_or schema) (ref_or_of_kind schema_doc schema schema_of_kind) x.schema)
-    (next_row (option_of_kind (ref_or_doc schema schema_doc) (ref_or schema) (ref_or_of_kind schema_doc schema schema_of_kind) x.item_schema)
     (next_row (option_of_kind text_of text text_of_kind x.description)
+    (next_row (map_of_kind f (named encoding_object) each x.encoding)
     (next_row (option_of_kind tree_of any tree_of_kind x.example)
     (next_row (map_of_kind (ref_or_doc (named example_object) example_doc) (ref_or (named example_object)) (ref_or_of_kind example_doc (named example_object) example_of_kind) x.examples)
-    (next_row (map_of_kind f (named encoding_object) each x.encoding)
+    (next_row (option_of_kind (boxed f) (named encoding_object) (boxed_of_kind f (named encoding_object) each) x.item_encoding)
+    (next_row (option_of_kind (ref_or_doc schema schema_doc) (ref_or schema) (ref_or_of_kind schema_doc schema schema_of_kind) x.item_schema)
     (next_row (list_of_kind f (named encoding_object) each x.prefix_encoding)
-    (next_row (option_of_kind (boxed f) (named encoding_object) (boxed_of_kind f (named encoding_object) each) x.item_encoding) no_rows))))))))
+    (next_row (option_of_kind (ref_or_doc schema schema_doc) (ref_or schema) (ref_or_of_kind schema_doc schema schema_of_kind) x.schema) no_rows))))))))
     (extends_of_kind (option_map extensions_view x.extensions))
 
 encoding_layer_of_kind : {C E H : Type 0} (g : H → Doc) → ((h : H) → IsOf (g h) (value_of (named header_object))) → (f : E → Doc) → ((e : E) → IsOf (f e) (value_of (named encoding_object)))
     → (x : Encoding-F C E H) → IsOf (encoding_layer g f x) (value_of (named encoding_object))
 encoding_layer_of_kind g headers f each x =
     table_of_kind _ _
-    (next_row (option_of_kind text_of text text_of_kind x.content_type)
-    (next_row (map_of_kind (ref_or_doc (named header_object) g) (ref_or (named header_object)) (ref_or_of_kind g (named header_object) headers) x.headers)
-    (next_row (option_of_kind parameter_style_doc (word_of parameter_style) parameter_style_of_kind x.style)
-    (next_row (option_of_kind flag_doc flag flag_of_kind x.explode)
     (next_row (option_of_kind flag_doc flag flag_of_kind x.allow_reserved)
+    (next_row (option_of_kind text_of text text_of_kind x.content_type)
     (next_row (map_of_kind f (named encoding_object) each x.encoding)
+    (next_row (option_of_kind flag_doc flag flag_of_kind x.explode)
+    (next_row (map_of_kind (ref_or_doc (named header_object) g) (ref_or (named header_object)) (ref_or_of_kind g (named header_object) headers) x.headers)
+    (next_row (option_of_kind (boxed f) (named encoding_object) (boxed_of_kind f (named encoding_object) each) x.item_encoding)
     (next_row (list_of_kind f (named encoding_object) each x.prefix_encoding)
-    (next_row (option_of_kind (boxed f) (named encoding_object) (boxed_of_kind f (named encoding_object) each) x.item_encoding) no_rows))))))))
+    (next_row (option_of_kind parameter_style_doc (word_of parameter_style) parameter_style_of_kind x.style) no_rows))))))))
     (extends_of_kind (option_map extensions_view x.extensions))
 
 header_layer_of_kind : {C E H : Type 0} (f : C → Doc) → ((c : C) → IsOf (f c) (value_of (named media_type_object))) → (x : Header-F C E H) → IsOf (header_layer f x) (value_of (named header_object))
 header_layer_of_kind f each x =
     table_of_kind _ _
-    (next_row (option_of_kind (ref_or_doc schema schema_doc) (ref_or schema) (ref_or_of_kind schema_doc schema schema_of_kind) x.schema)
-    (next_row (option_of_kind text_of text text_of_kind x.description)
+    (next_row (map_of_kind (ref_or_doc (named media_type_object) f) (ref_or (named media_type_object)) (ref_or_of_kind f (named media_type_object) each) x.content)
     (next_row (option_of_kind deprecated_doc flag deprecated_of_kind x.deprecated)
-    (next_row (option_of_kind parameter_style_doc (word_of parameter_style) parameter_style_of_kind x.style)
-    (next_row (option_of_kind flag_doc flag flag_of_kind x.explode)
+    (next_row (option_of_kind text_of text text_of_kind x.description)
     (next_row (option_of_kind tree_of any tree_of_kind x.example)
     (next_row (map_of_kind (ref_or_doc (named example_object) example_doc) (ref_or (named example_object)) (ref_or_of_kind example_doc (named example_object) example_of_kind) x.examples)
-    (next_row (map_of_kind (ref_or_doc (named media_type_object) f) (ref_or (named media_type_object)) (ref_or_of_kind f (named media_type_object) each) x.content) no_rows))))))))
+    (next_row (option_of_kind flag_doc flag flag_of_kind x.explode)
+    (next_row (option_of_kind (ref_or_doc schema schema_doc) (ref_or schema) (ref_or_of_kind schema_doc schema schema_of_kind) x.schema)
+    (next_row (option_of_kind parameter_style_doc (word_of parameter_style) parameter_style_of_kind x.style) no_rows))))))))
     (extends_of_kind (option_map extensions_view x.extensions))
 
 -- ---- by induction, from the innermost value outwards

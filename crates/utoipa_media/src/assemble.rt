@@ -19,12 +19,12 @@ ghost use Rattle.utoipa_media.specs.Docs.{content_doc, encoding_doc, header_doc}
 ghost use Rattle.utoipa_media.specs.Parts.{encodings_rows, encodings_docs};
 
 use crate::parts::{EncodingMembers, content_of, encoding_of, header_of};
-use crate::rows::{content_rows, encoding_head_rows, encoding_style_rows, header_rows};
+use crate::rows::{content_rows, encoding_rows, header_rows};
 use crate::types::{Content, Encoding, Header};
 use serde_json::Value;
 use std::alloc::Global;
 use std::collections::BTreeMap;
-use utoipa_base::{ReadFault, Readings, RefOr, read_rows_beside, read_table_beside, row_names};
+use utoipa_base::{ReadFault, Readings, RefOr, read_table_beside, row_names};
 
 /// A content whose encodings have been read.
 #[inline(never)]
@@ -66,13 +66,11 @@ pub(crate) fn assemble_encoding(
         start readings.new (values (view tree.now)) }
 {
     let kept = (headers, encodings);
-    let names = encoding_style_rows!(row_names!());
-    let later = read_rows_beside(alloc, tree, names, kept, readings)?;
-    let names = encoding_head_rows!(row_names!());
-    let (head, extensions, (style, (headers, encodings))) = read_table_beside(
-        alloc, tree, "Encoding", names, later, readings,
+    let names = encoding_rows!(row_names!());
+    let (rows, extensions, (headers, encodings)) = read_table_beside(
+        alloc, tree, "Encoding", names, kept, readings,
     )?;
-    Ok(encoding_of(head, extensions, style, headers, encodings))
+    Ok(encoding_of(rows, extensions, headers, encodings))
 }
 
 /// A header whose contents have been read.

@@ -14,11 +14,10 @@ ghost use Rattle.utoipa_media.specs.declared.types.Header.{out-Header};
 
 use crate::fill::{push_copied, put_copied};
 use crate::parts::{EncodingMembers, content_of, encoding_of, header_of};
-use crate::rows::{content_rows, encoding_head_rows, encoding_style_rows, header_rows};
+use crate::rows::{content_rows, encoding_rows, header_rows};
 use crate::types::{Content, Encoding, Header};
 use std::alloc::{AllocError, Global};
 use std::collections::BTreeMap;
-use utoipa_base::table::CloneRows;
 use utoipa_base::{RefOr, Tree, beside, clone_rows_beside, row_values};
 
 /// Copies a content. Fails where memory runs out.
@@ -215,16 +214,15 @@ fn clone_encoding_with(
         ≡ encodings_docs (out-Encoding encoding.now).encoding (out-Encoding encoding.now).prefix_encoding (out-Encoding encoding.now).item_encoding
         → encoding_doc copy ≡ encoding_doc encoding.now) }
 {
-    let style = encoding_style_rows!(row_values!(encoding)).clone_fields(alloc);
-    let kept = beside((headers, encodings), style)?;
-    let head = encoding_head_rows!(row_values!(encoding));
-    let (head, extensions, ((headers, encodings), style)) = clone_rows_beside(
+    let rows = encoding_rows!(row_values!(encoding));
+    let kept = (headers, encodings);
+    let (rows, extensions, (headers, encodings)) = clone_rows_beside(
         alloc,
-        &head,
+        &rows,
         &encoding.extensions,
         kept,
     )?;
-    Ok(encoding_of(head, extensions, style, headers, encodings))
+    Ok(encoding_of(rows, extensions, headers, encodings))
 }
 
 /// Copies a header, whose content has been copied. Fails where memory runs out.

@@ -4,16 +4,15 @@
 mod assemble;
 pub mod content;
 mod copy;
+mod emit;
 pub mod encoding;
 mod fill;
 pub mod header;
 pub mod link;
 mod parts;
-mod print;
 mod read;
 mod rows;
 pub mod trees;
 mod types;
-mod write;
 
 pub use trees::{read_content_map, read_encoding_list, read_ref_or_header};

@@ -1,35 +1,19 @@
 //! Links from a response to a further operation.
-ghost use Rattle.std.specs.Prelude.{◌≡◌, IfOk, refl, false, string_cmp};
+ghost use Rattle.std.specs.Prelude.{◌≡◌, IfOk, false, string_cmp};
 ghost use Rattle.std.specs.BTreeMap.{insert_entry};
 ghost use Rattle.utoipa_base.specs.Kinds.{named, link_object};
 
-use json::Writer;
 use serde_json::Value;
 use std::alloc::{AllocError, Global};
 use std::collections::BTreeMap;
 use utoipa_base::{
-    Extensions, Place, ReadFault, Readings, Tree, clone_table, from_fields, print_table, put,
-    read_table, row_names, row_values, write_table,
+    Documented, Emit, Extensions, JsonSink, Place, ReadFault, Readings, Tree, clone_table,
+    emit_table, from_fields, put, read_table, row_names, row_values,
 };
 use utoipa_leaf::server::Server;
 
-// The rows of a link, in the order of its member table: mark, member, field.
+// The rows of a link, in the order of the members' names: mark, member, field.
 macro_rules! link_rows {
-    ($lines:ident!($($arguments:tt)*)) => {
-        $lines! {
-            $($arguments)*;
-            defaulted "operationRef" operation_ref,
-            defaulted "operationId" operation_id,
-            defaulted "parameters" parameters,
-            optional "requestBody" request_body,
-            defaulted "description" description,
-            optional "server" server,
-        }
-    };
-}
-
-// The same, in the order of the members' names.
-macro_rules! link_rows_by_name {
     ($lines:ident!($($arguments:tt)*)) => {
         $lines! {
             $($arguments)*;
@@ -73,12 +57,24 @@ impl Link {
     }
 }
 
-impl Tree for Link {
-    ghost use Rattle.utoipa_media.specs.Link.{link_doc, link_of_kind};
+impl Documented for Link {
+    ghost use Rattle.utoipa_media.specs.Link.{link_doc};
 
     ghost kind = { named link_object };
 
     ghost doc = { link_doc };
+}
+
+impl Emit for Link {
+    fn emit<S: JsonSink>(&self, out: &mut S) -> Result<(), AllocError> {
+        let names = link_rows!(row_names!());
+        let values = link_rows!(row_values!(self));
+        emit_table(out, names, &values, &self.extensions)
+    }
+}
+
+impl Tree for Link {
+    ghost use Rattle.utoipa_media.specs.Link.{link_of_kind};
 
     ghost is_of_kind = { link_of_kind };
 
@@ -86,18 +82,6 @@ impl Tree for Link {
         let names = link_rows!(row_names!());
         let (fields, extensions) = read_table(alloc, tree, "Link", names, readings)?;
         Ok(link_rows!(from_fields!(Link, fields, extensions)))
-    }
-
-    fn to_value(&self, alloc: Global) -> Result<Value, AllocError> {
-        let names = link_rows!(row_names!());
-        let values = link_rows!(row_values!(self));
-        write_table(alloc, names, &values, &self.extensions)
-    }
-
-    fn print(&self, alloc: Global, out: &mut Writer) -> Result<(), AllocError> {
-        let names = link_rows_by_name!(row_names!());
-        let values = link_rows_by_name!(row_values!(self));
-        print_table(alloc, out, names, &values, &self.extensions)
     }
 
     fn try_clone(&self, alloc: Global) -> Result<Link, AllocError> {

@@ -1,15 +1,15 @@
 //! Contents, encodings and headers, made of their parts: of the rows that hold none of these themselves, which are read and
 //! copied together, and of the members that do.
 ghost use Rattle.std.specs.Prelude.{◌≡◌, option_map};
-ghost use Rattle.utoipa_base.specs.Docs.{doc, docs_append, no_docs, table_doc};
+ghost use Rattle.utoipa_base.specs.Docs.{doc, docs_woven, no_docs, table_doc};
 ghost use Rattle.utoipa_base.specs.Extensions.{extensions_view};
 ghost use Rattle.utoipa_base.specs.Kinds.{media_type_object, encoding_object, header_object, named};
 ghost use Rattle.utoipa_base.specs.Refs.{ref_or_doc};
 ghost use Rattle.utoipa_base.specs.Views.{map_of_docs};
 ghost use Rattle.utoipa_media.specs.Docs.{content_doc, encoding_doc, header_doc};
-ghost use Rattle.utoipa_media.specs.Parts.{encodings_docs};
+ghost use Rattle.utoipa_media.specs.Parts.{content_order, encoding_order, header_order, headers_order, encodings_docs};
 
-use crate::rows::{content_rows, encoding_head_rows, encoding_style_rows, from_rows, header_rows};
+use crate::rows::{content_rows, encoding_rows, from_rows, header_rows};
 use crate::types::{Content, Encoding, Header};
 use serde_json::Value;
 use std::collections::BTreeMap;
@@ -29,42 +29,42 @@ pub(crate) type EncodingMembers = (
 
 /// The fields of the rows of a content, but of those that hold encodings.
 pub(crate) type ContentRows = (
-    OptionalField<RefOr<Schema>>,
+    OptionalField<String>,
     (
-        OptionalField<RefOr<Schema>>,
+        OptionalField<Value>,
         (
-            OptionalField<String>,
+            DefaultedField<BTreeMap<String, RefOr<Example>>>,
             (
-                OptionalField<Value>,
-                (DefaultedField<BTreeMap<String, RefOr<Example>>>, ()),
+                OptionalField<RefOr<Schema>>,
+                (OptionalField<RefOr<Schema>>, ()),
             ),
         ),
     ),
 );
 
-/// The fields of the rows of an encoding before its headers.
-pub(crate) type EncodingHeadRows = (OptionalField<String>, ());
-
-/// The fields of the rows of an encoding between its headers and its encodings.
-pub(crate) type EncodingStyleRows = (
-    OptionalField<ParameterStyle>,
-    (OptionalField<bool>, (OptionalField<bool>, ())),
+/// The fields of the rows of an encoding, but of its headers and encodings.
+pub(crate) type EncodingRows = (
+    OptionalField<bool>,
+    (
+        OptionalField<String>,
+        (OptionalField<bool>, (OptionalField<ParameterStyle>, ())),
+    ),
 );
 
 /// The fields of the rows of a header, but of its content.
 pub(crate) type HeaderRows = (
-    OptionalField<RefOr<Schema>>,
+    OptionalField<Deprecated>,
     (
         OptionalField<String>,
         (
-            OptionalField<Deprecated>,
+            OptionalField<Value>,
             (
-                OptionalField<ParameterStyle>,
+                DefaultedField<BTreeMap<String, RefOr<Example>>>,
                 (
                     OptionalField<bool>,
                     (
-                        OptionalField<Value>,
-                        (DefaultedField<BTreeMap<String, RefOr<Example>>>, ()),
+                        OptionalField<RefOr<Schema>>,
+                        (OptionalField<ParameterStyle>, ()),
                     ),
                 ),
             ),
@@ -79,33 +79,31 @@ pub(crate) fn content_of(
     encodings: EncodingMembers,
 ) -> Content
     ensures { content_doc result ≡ table_doc media_type_object
-        (docs_append (⟦<ContentRows as RowFields>⟧.docs rows) (encodings_docs encodings.0 encodings.1 encodings.2))
+        (docs_woven content_order (⟦<ContentRows as RowFields>⟧.docs rows) (encodings_docs encodings.0 encodings.1 encodings.2))
         (option_map extensions_view extensions) }
 {
     let (encoding, prefix_encoding, item_encoding) = encodings;
     content_rows!(from_rows!(
-        Content { encoding, prefix_encoding, item_encoding, extensions, } [] rows
+        Content { encoding, prefix_encoding, item_encoding, extensions, } rows
     ))
 }
 
 /// The encoding of these parts.
 pub(crate) fn encoding_of(
-    head: EncodingHeadRows,
+    rows: EncodingRows,
     extensions: Option<Extensions>,
-    style: EncodingStyleRows,
     headers: BTreeMap<String, RefOr<Header>>,
     encodings: EncodingMembers,
 ) -> Encoding
     ensures { encoding_doc result ≡ table_doc encoding_object
-        (docs_append (⟦<EncodingHeadRows as RowFields>⟧.docs head)
-        (doc (map_of_docs (ref_or_doc (named header_object) header_doc) headers)
-        (docs_append (⟦<EncodingStyleRows as RowFields>⟧.docs style) (encodings_docs encodings.0 encodings.1 encodings.2))))
+        (docs_woven encoding_order (⟦<EncodingRows as RowFields>⟧.docs rows)
+        (docs_woven headers_order (encodings_docs encodings.0 encodings.1 encodings.2)
+        (doc (map_of_docs (ref_or_doc (named header_object) header_doc) headers) no_docs)))
         (option_map extensions_view extensions) }
 {
     let (encoding, prefix_encoding, item_encoding) = encodings;
-    encoding_style_rows!(from_rows!(
-        Encoding { headers, encoding, prefix_encoding, item_encoding, extensions, }
-        [head encoding_head_rows] style
+    encoding_rows!(from_rows!(
+        Encoding { headers, encoding, prefix_encoding, item_encoding, extensions, } rows
     ))
 }
 
@@ -116,9 +114,9 @@ pub(crate) fn header_of(
     content: BTreeMap<String, RefOr<Content>>,
 ) -> Header
     ensures { header_doc result ≡ table_doc header_object
-        (docs_append (⟦<HeaderRows as RowFields>⟧.docs rows)
+        (docs_woven header_order (⟦<HeaderRows as RowFields>⟧.docs rows)
         (doc (map_of_docs (ref_or_doc (named media_type_object) content_doc) content) no_docs))
         (option_map extensions_view extensions) }
 {
-    header_rows!(from_rows!(Header { content, extensions, } [] rows))
+    header_rows!(from_rows!(Header { content, extensions, } rows))
 }

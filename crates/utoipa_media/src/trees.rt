@@ -1,27 +1,20 @@
 //! Contents, encodings and headers are read from trees and written as trees.
-ghost use Rattle.std.specs.Prelude.{false, refl};
+ghost use Rattle.std.specs.Prelude.{false};
 ghost use Rattle.serde_json.specs.View.{view};
-ghost use Rattle.utoipa_base.specs.Kinds.{named, media_type_object, encoding_object, header_object};
 ghost use Rattle.utoipa_base.specs.Reading.{read as read_as};
 ghost use Rattle.utoipa_base.specs.Reads.{Reads};
 ghost use Rattle.utoipa_base.specs.Values.{values};
-ghost use Rattle.utoipa_media.specs.Docs.{content_doc, encoding_doc, header_doc};
 ghost use Rattle.utoipa_media.specs.OfKind.{content_of_kind, encoding_of_kind, header_of_kind};
 
 use crate::types::{Content, Encoding, Header};
-use crate::{copy, print, read, write};
-use json::Writer;
+use crate::{copy, read};
 use serde_json::Value;
 use std::alloc::{AllocError, Global};
 use std::collections::BTreeMap;
-use utoipa_base::{Place, ReadFault, Readings, RefOr, Tree};
+use utoipa_base::{Documented, Place, ReadFault, Readings, RefOr, Tree};
 
 /// A content, by its member table.
 impl Tree for Content {
-    ghost kind = { named media_type_object };
-
-    ghost doc = { content_doc };
-
     ghost is_of_kind = { content_of_kind };
 
     fn read_plain(
@@ -30,14 +23,6 @@ impl Tree for Content {
         readings: &mut Readings,
     ) -> Result<Content, ReadFault> {
         read::read_content(alloc, tree, readings)
-    }
-
-    fn to_value(&self, alloc: Global) -> Result<Value, AllocError> {
-        write::write_content(alloc, self)
-    }
-
-    fn print(&self, alloc: Global, out: &mut Writer) -> Result<(), AllocError> {
-        print::print_content(alloc, self, out)
     }
 
     fn try_clone(&self, alloc: Global) -> Result<Content, AllocError> {
@@ -54,10 +39,6 @@ impl Place for Content {
 
 /// An encoding, by its member table.
 impl Tree for Encoding {
-    ghost kind = { named encoding_object };
-
-    ghost doc = { encoding_doc };
-
     ghost is_of_kind = { encoding_of_kind };
 
     fn read_plain(
@@ -66,14 +47,6 @@ impl Tree for Encoding {
         readings: &mut Readings,
     ) -> Result<Encoding, ReadFault> {
         read::read_encoding(alloc, tree, readings)
-    }
-
-    fn to_value(&self, alloc: Global) -> Result<Value, AllocError> {
-        write::write_encoding(alloc, self)
-    }
-
-    fn print(&self, alloc: Global, out: &mut Writer) -> Result<(), AllocError> {
-        print::print_encoding(alloc, self, out)
     }
 
     fn try_clone(&self, alloc: Global) -> Result<Encoding, AllocError> {
@@ -90,10 +63,6 @@ impl Place for Encoding {
 
 /// A header, by its member table.
 impl Tree for Header {
-    ghost kind = { named header_object };
-
-    ghost doc = { header_doc };
-
     ghost is_of_kind = { header_of_kind };
 
     fn read_plain(
@@ -102,14 +71,6 @@ impl Tree for Header {
         readings: &mut Readings,
     ) -> Result<Header, ReadFault> {
         read::read_header(alloc, tree, readings)
-    }
-
-    fn to_value(&self, alloc: Global) -> Result<Value, AllocError> {
-        write::write_header(alloc, self)
-    }
-
-    fn print(&self, alloc: Global, out: &mut Writer) -> Result<(), AllocError> {
-        print::print_header(alloc, self, out)
     }
 
     fn try_clone(&self, alloc: Global) -> Result<Header, AllocError> {
@@ -132,7 +93,7 @@ pub fn read_ref_or_header(
     tree: &Value,
     readings: &mut Readings,
 ) -> Result<RefOr<Header>, ReadFault>
-    ensures { Reads (read_as ⟦<RefOr<Header> as Tree>⟧.kind (view tree.now)) ⟦<RefOr<Header> as Tree>⟧.doc result
+    ensures { Reads (read_as ⟦<RefOr<Header> as Documented>⟧.kind (view tree.now)) ⟦<RefOr<Header> as Documented>⟧.doc result
         readings.old readings.new (values (view tree.now)) }
 {
     read::read_ref_or_header(alloc, tree, readings)
@@ -146,7 +107,7 @@ pub fn read_encoding_list(
     tree: &Value,
     readings: &mut Readings,
 ) -> Result<Vec<Encoding>, ReadFault>
-    ensures { Reads (read_as ⟦<Vec<Encoding> as Tree>⟧.kind (view tree.now)) ⟦<Vec<Encoding> as Tree>⟧.doc result
+    ensures { Reads (read_as ⟦<Vec<Encoding> as Documented>⟧.kind (view tree.now)) ⟦<Vec<Encoding> as Documented>⟧.doc result
         readings.old readings.new (values (view tree.now)) }
 {
     read::read_encoding_list(alloc, tree, readings)
@@ -160,7 +121,7 @@ pub fn read_content_map(
     tree: &Value,
     readings: &mut Readings,
 ) -> Result<BTreeMap<String, RefOr<Content>>, ReadFault>
-    ensures { Reads (read_as ⟦<BTreeMap<String, RefOr<Content>> as Tree>⟧.kind (view tree.now)) ⟦<BTreeMap<String, RefOr<Content>> as Tree>⟧.doc result
+    ensures { Reads (read_as ⟦<BTreeMap<String, RefOr<Content>> as Documented>⟧.kind (view tree.now)) ⟦<BTreeMap<String, RefOr<Content>> as Documented>⟧.doc result
         readings.old readings.new (values (view tree.now)) }
 {
     read::read_content_map(alloc, tree, readings)

@@ -88,20 +88,20 @@ unfolding has_fraction
 item_table_plain ds e h s slots =
     or_from _ _ (fields_plain rows ds h
     (next_row (at_base (codes "$ref"))
-    (next_row (at_base (codes "summary"))
-    (next_row (at_base (codes "description"))
-    (next_row (at_base (codes "servers"))
-    (next_row (at_base (codes "parameters"))
-    (next_row (at get_method refl)
-    (next_row (at put_method refl)
-    (next_row (at post_method refl)
+    (next_row others
     (next_row (at delete_method refl)
-    (next_row (at options_method refl)
+    (next_row (at_base (codes "description"))
+    (next_row (at get_method refl)
     (next_row (at head_method refl)
+    (next_row (at options_method refl)
+    (next_row (at_base (codes "parameters"))
     (next_row (at patch_method refl)
-    (next_row (at trace_method refl)
+    (next_row (at post_method refl)
+    (next_row (at put_method refl)
     (next_row (at query_method refl)
-    (next_row others no_rows))))))))))))))))
+    (next_row (at_base (codes "servers"))
+    (next_row (at_base (codes "summary"))
+    (next_row (at trace_method refl) no_rows))))))))))))))))
     (extensions_plain (parts base_members (table_doc path_item_object ds e)) (slots base))
   where
     rows : List Row
@@ -147,16 +147,16 @@ component_table_plain : (ds : Docs) (e : Option Members) → RowsOf ds (table co
 unfolding has_fraction
 component_table_plain ds e h s found extensions =
     or_from _ _ (fields_plain (table components_object) ds h
-    (next_row (at schema_map _ refl)
-    (next_row (at response_map _ refl)
-    (next_row (at parameter_map _ refl)
+    (next_row (at callback_map _ refl)
     (next_row (at example_map _ refl)
-    (next_row (at request_body_map _ refl)
     (next_row (at header_map _ refl)
     (next_row (at link_map _ refl)
-    (next_row (at callback_map _ refl)
-    (next_row (at path_item_map _ refl)
     (next_row (at media_type_map _ refl)
+    (next_row (at parameter_map _ refl)
+    (next_row (at path_item_map _ refl)
+    (next_row (at request_body_map _ refl)
+    (next_row (at response_map _ refl)
+    (next_row (at schema_map _ refl)
     (next_row (at security_scheme_map _ refl) no_rows))))))))))))
     extensions
   where
@@ -181,18 +181,18 @@ document_table_plain : (ds : Docs) (e : Option Members) → RowsOf ds (table ope
 unfolding has_fraction
 document_table_plain ds e h s slots =
     or_from _ _ (fields_plain (table open_api_object) ds h
-    (next_row (at_fixed (codes "openapi"))
-    (next_row (at_fixed (codes "info"))
-    (next_row (list_at servers_joined _ refl)
-    (next_row (paths_plain _ (field_fits (codes "paths") (table open_api_object) ds _ h refl) s.paths slots.paths slots.path_extensions)
-    (next_row (at_fixed (codes "webhooks"))
-    (next_row (components_plain _ (field_fits (codes "components") (table open_api_object) ds _ h refl) s.components slots.components slots.component_extensions)
-    (next_row (list_at security_joined _ refl)
-    (next_row (list_at tags_joined _ refl)
-    (next_row (at_fixed (codes "externalDocs"))
-    (next_row (at_fixed (codes "jsonSchemaDialect"))
     (next_row (at_fixed (codes "$schema"))
-    (next_row (at_fixed (codes "$self")) no_rows)))))))))))))
+    (next_row (at_fixed (codes "$self"))
+    (next_row (components_plain _ (field_fits (codes "components") (table open_api_object) ds _ h refl) s.components slots.components slots.component_extensions)
+    (next_row (at_fixed (codes "externalDocs"))
+    (next_row (at_fixed (codes "info"))
+    (next_row (at_fixed (codes "jsonSchemaDialect"))
+    (next_row (at_fixed (codes "openapi"))
+    (next_row (paths_plain _ (field_fits (codes "paths") (table open_api_object) ds _ h refl) s.paths slots.paths slots.path_extensions)
+    (next_row (list_at security_joined _ refl)
+    (next_row (list_at servers_joined _ refl)
+    (next_row (list_at tags_joined _ refl)
+    (next_row (at_fixed (codes "webhooks")) no_rows)))))))))))))
     (extensions_plain (parts fixed_members (table_doc open_api_object ds e)) slots.fixed)
   where
     at_fixed : (name : List ℕ) → IfSome (entry_at name (parts fixed_members (table_doc open_api_object ds e))) IsPlain

@@ -7,28 +7,28 @@ use Rattle.utoipa_base.specs.Docs.{Doc, text_doc, word_doc, none_doc, some_doc, 
 
 -- an Info Object with empty texts
 abbrev pub info : Doc
-info = table_doc info_object (doc (text_doc []) (doc none_doc (doc none_doc (doc none_doc (doc none_doc (doc (text_doc []) no_docs)))))) None
+info = table_doc info_object (doc none_doc (doc none_doc (doc none_doc (doc none_doc (doc (text_doc []) (doc (text_doc []) no_docs)))))) None
 
 -- a document of these parts
 abbrev pub api : (servers paths components : Doc) → Doc
 api servers paths components =
     table_doc open_api_object
-    (doc (word_doc (codes "3.1.0"))
-    (doc info
-    (doc servers
-    (doc paths
+    (doc (text_doc [])
     (doc none_doc
     (doc components
-    (doc none_doc (doc none_doc (doc none_doc (doc none_doc (doc (text_doc []) (doc none_doc no_docs))))))))))))
+    (doc none_doc
+    (doc info
+    (doc none_doc
+    (doc (word_doc (codes "3.1.0")) (doc paths (doc none_doc (doc servers (doc none_doc (doc none_doc no_docs))))))))))))
     None
 
 -- a Server Object at this address
 abbrev pub server : List ℕ → Doc
-server url = table_doc server_object (doc (text_doc url) (doc none_doc (doc none_doc (doc none_doc no_docs)))) None
+server url = table_doc server_object (doc none_doc (doc none_doc (doc (text_doc url) (doc none_doc no_docs)))) None
 
 -- an Example Object with this summary, where a reference could stand
 abbrev pub example : List ℕ → Doc
-example summary = own_doc (table_doc example_object (doc (text_doc summary) (doc (text_doc []) (doc none_doc (doc (text_doc []) no_docs)))) None)
+example summary = own_doc (table_doc example_object (doc (text_doc []) (doc (text_doc []) (doc (text_doc summary) (doc none_doc no_docs)))) None)
 
 -- components that are there, with these examples and extensions
 abbrev pub with_examples : Entries → Option Members → Doc
@@ -36,9 +36,9 @@ with_examples es e =
     some_doc
     (table_doc components_object
     (doc (map_doc no_entries)
-    (doc (map_doc no_entries)
-    (doc (map_doc no_entries)
     (doc (map_doc es)
+    (doc (map_doc no_entries)
+    (doc (map_doc no_entries)
     (doc (map_doc no_entries)
     (doc (map_doc no_entries)
     (doc (map_doc no_entries)
@@ -50,6 +50,7 @@ abbrev pub item : Doc
 item =
     table_doc path_item_object
     (doc none_doc
+    (doc (map_doc no_entries)
     (doc none_doc
     (doc none_doc
     (doc none_doc
@@ -57,8 +58,7 @@ item =
     (doc none_doc
     (doc none_doc
     (doc none_doc
-    (doc none_doc
-    (doc none_doc (doc none_doc (doc none_doc (doc none_doc (doc none_doc (doc (map_doc no_entries) no_docs)))))))))))))))
+    (doc none_doc (doc none_doc (doc none_doc (doc none_doc (doc none_doc (doc none_doc no_docs)))))))))))))))
     None
 
 -- extensions of one name

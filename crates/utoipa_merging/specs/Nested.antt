@@ -1,22 +1,23 @@
 -- What it means that a document is nested into another: each of its paths stands where a composer of paths puts it, and the rest is merged.
-use Rattle.std.specs.Prelude.{◌≡◌, ℕ, List, [], ◌∷◌, Option, None, Some, map, length, if◌then◌else◌}
+use Rattle.std.specs.Prelude.{◌≡◌, ℕ, List, [], ◌∷◌, Option, None, Some, map, length, if◌then◌else◌, codes}
 use Rattle.std.specs.Option.{option_or}
 use Rattle.std.specs.Str.{bytes_eq}
 use Rattle.serde_json.specs.Data.{Members}
-use Rattle.utoipa_base.specs.Kinds.{open_api_object}
+use Rattle.utoipa_base.specs.Kinds.{open_api_object, Row}
 use Rattle.utoipa_base.specs.Docs.{Doc, Docs, doc, Entries, no_entries, entries_doc, table_doc}
+use Rattle.utoipa_base.specs.Tables.{table}
 use Rattle.utoipa_merging.specs.Rules.{last_of}
 use Rattle.utoipa_merging.specs.Slots.{extensions_in, entries_in, entry_at, paths_of, first_doc, rest_docs}
 use Rattle.utoipa_merging.specs.Merged.{IsMerged}
 
--- the fields of an OpenAPI Object, with another at `paths`, its fourth row
-abbrev pub with_fourth : Doc → Docs → Docs
-with_fourth d ds =
-    doc (first_doc ds) (doc (first_doc (rest_docs ds)) (doc (first_doc (rest_docs (rest_docs ds))) (doc d (rest_docs (rest_docs (rest_docs (rest_docs ds)))))))
+-- the fields of rows, with another at the first row of this name
+abbrev pub with_field : List ℕ → Doc → List Row → Docs → Docs
+with_field name d [] ds = ds
+with_field name d (r ∷ rs) ds = if bytes_eq name r.name then doc d (rest_docs ds) else doc (first_doc ds) (with_field name d rs (rest_docs ds))
 
 -- the document, with other entries and extensions as its paths
 abbrev pub with_paths : Entries → Option Members → Doc → Doc
-with_paths es e (table_doc open_api_object ds extensions) = table_doc open_api_object (with_fourth (entries_doc es e) ds) extensions
+with_paths es e (table_doc open_api_object ds extensions) = table_doc open_api_object (with_field (codes "paths") (entries_doc es e) (table open_api_object) ds) extensions
 with_paths es e d = d
 
 -- the nested items, each under the composer's answer to its path

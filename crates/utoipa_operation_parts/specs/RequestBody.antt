@@ -29,8 +29,8 @@ IsEmptyRequestBody b =
 abbrev pub request_body_doc : RequestBody → Doc
 request_body_doc b =
     table_doc request_body_object
-    (doc (option_of text_of b.description)
     (doc (map_of_docs (ref_or_doc (named media_type_object) content_doc) b.content)
+    (doc (option_of text_of b.description)
     (doc (option_of required_doc b.required) no_docs)))
     (option_map extensions_view b.extensions)
 
@@ -38,7 +38,7 @@ request_body_doc b =
 pub request_body_of_kind : (b : RequestBody) → IsOf (request_body_doc b) (value_of (named request_body_object))
 request_body_of_kind b =
     table_of_kind _ _
-    (next_row (option_of_kind text_of text text_of_kind b.description)
     (next_row (map_of_kind (ref_or_doc (named media_type_object) content_doc) (ref_or (named media_type_object)) (ref_or_of_kind content_doc (named media_type_object) content_of_kind) b.content)
+    (next_row (option_of_kind text_of text text_of_kind b.description)
     (next_row (option_of_kind required_doc flag required_of_kind b.required) no_rows)))
     (extends_of_kind (option_map extensions_view b.extensions))

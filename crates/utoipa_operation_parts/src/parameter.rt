@@ -1,5 +1,5 @@
 //! Parameters of operations.
-ghost use Rattle.std.specs.Prelude.{◌≡◌, IfOk, refl, false, string_cmp};
+ghost use Rattle.std.specs.Prelude.{◌≡◌, IfOk, false, string_cmp};
 ghost use Rattle.std.specs.BTreeMap.{insert_entry};
 ghost use Rattle.std.specs.Iterator.{IsFinite, Drains};
 ghost use Rattle.utoipa_base.specs.Fill.{Pairs, put_each};
@@ -8,41 +8,21 @@ ghost use Rattle.utoipa_base.specs.declared.refs.RefOr.{RefOr};
 ghost use Rattle.utoipa_media.specs.Builders.{Contents};
 ghost use Rattle.utoipa_media.specs.declared.types.Content.{Content};
 
-use json::Writer;
 use serde_json::Value;
 use std::alloc::{AllocError, Global};
 use std::collections::BTreeMap;
 use std::mem;
 use utoipa_base::{
-    Deprecated, Extensions, Place, ReadFault, Readings, RefOr, Required, Tree, clone_table,
-    from_fields, print_table, put, put_each, read_table, row_names, row_values, write_table,
+    Deprecated, Documented, Emit, Extensions, JsonSink, Place, ReadFault, Readings, RefOr,
+    Required, Tree, clone_table, emit_table, from_fields, put, put_each, read_table, row_names,
+    row_values,
 };
 use utoipa_leaf::path::{ParameterIn, ParameterStyle};
 use utoipa_media::content::Content;
 use utoipa_schema::Schema;
 
-// The rows of a parameter, in the order of its member table: mark, member, field.
+// The rows of a parameter, in the order of the members' names: mark, member, field.
 macro_rules! parameter_rows {
-    ($lines:ident!($($arguments:tt)*)) => {
-        $lines! {
-            $($arguments)*;
-            required "name" name,
-            required "in" parameter_in,
-            optional "description" description,
-            required "required" required,
-            optional "deprecated" deprecated,
-            optional "schema" schema,
-            defaulted "content" content,
-            optional "style" style,
-            optional "explode" explode,
-            optional "allowReserved" allow_reserved,
-            optional "example" example,
-        }
-    };
-}
-
-// The same, in the order of the members' names.
-macro_rules! parameter_rows_by_name {
     ($lines:ident!($($arguments:tt)*)) => {
         $lines! {
             $($arguments)*;
@@ -122,13 +102,26 @@ impl Parameter {
     }
 }
 
-/// A parameter, by its member table.
-impl Tree for Parameter {
-    ghost use Rattle.utoipa_operation_parts.specs.Parameter.{parameter_doc, parameter_of_kind};
+impl Documented for Parameter {
+    ghost use Rattle.utoipa_operation_parts.specs.Parameter.{parameter_doc};
 
     ghost kind = { named parameter_object };
 
     ghost doc = { parameter_doc };
+}
+
+/// A parameter, by its member table.
+impl Emit for Parameter {
+    fn emit<S: JsonSink>(&self, out: &mut S) -> Result<(), AllocError> {
+        let names = parameter_rows!(row_names!());
+        let values = parameter_rows!(row_values!(self));
+        emit_table(out, names, &values, &self.extensions)
+    }
+}
+
+/// A parameter, by its member table.
+impl Tree for Parameter {
+    ghost use Rattle.utoipa_operation_parts.specs.Parameter.{parameter_of_kind};
 
     ghost is_of_kind = { parameter_of_kind };
 
@@ -140,18 +133,6 @@ impl Tree for Parameter {
         let names = parameter_rows!(row_names!());
         let (fields, extensions) = read_table(alloc, tree, "Parameter", names, readings)?;
         Ok(parameter_rows!(from_fields!(Parameter, fields, extensions)))
-    }
-
-    fn to_value(&self, alloc: Global) -> Result<Value, AllocError> {
-        let names = parameter_rows!(row_names!());
-        let values = parameter_rows!(row_values!(self));
-        write_table(alloc, names, &values, &self.extensions)
-    }
-
-    fn print(&self, alloc: Global, out: &mut Writer) -> Result<(), AllocError> {
-        let names = parameter_rows_by_name!(row_names!());
-        let values = parameter_rows_by_name!(row_values!(self));
-        print_table(alloc, out, names, &values, &self.extensions)
     }
 
     fn try_clone(&self, alloc: Global) -> Result<Parameter, AllocError> {

@@ -1,5 +1,5 @@
 //! The bodies of requests.
-ghost use Rattle.std.specs.Prelude.{◌≡◌, IfOk, refl, false, option_map, string_cmp};
+ghost use Rattle.std.specs.Prelude.{◌≡◌, IfOk, false, option_map, string_cmp};
 ghost use Rattle.std.specs.BTreeMap.{insert_entry};
 ghost use Rattle.utoipa_base.specs.Docs.{table_doc};
 ghost use Rattle.utoipa_base.specs.Extensions.{extensions_view};
@@ -9,31 +9,18 @@ ghost use Rattle.utoipa_operation_parts.specs.JsonSchema.{PutsJsonSchema};
 ghost use Rattle.utoipa_operation_parts.specs.RequestBody.{request_body_doc};
 
 use crate::json_schema::{json_media_type, json_schema_content};
-use json::Writer;
 use serde_json::Value;
 use std::alloc::{AllocError, Global};
 use std::collections::BTreeMap;
 use utoipa_base::table::{OptionalField, RequiredField, RowFields};
 use utoipa_base::{
-    Extensions, Place, ReadFault, Readings, Ref, RefOr, Required, Tree, clone_table, from_fields,
-    print_table, put, read_table, row_names, row_values, write_table,
+    Documented, Emit, Extensions, JsonSink, Place, ReadFault, Readings, Ref, RefOr, Required, Tree,
+    clone_table, emit_table, from_fields, put, read_table, row_names, row_values,
 };
 use utoipa_media::content::Content;
 
-// The rows of a request body, in the order of its member table: mark, member, field.
+// The rows of a request body, in the order of the members' names: mark, member, field.
 macro_rules! request_body_rows {
-    ($lines:ident!($($arguments:tt)*)) => {
-        $lines! {
-            $($arguments)*;
-            optional "description" description,
-            required "content" content,
-            optional "required" required,
-        }
-    };
-}
-
-// The same, in the order of the members' names.
-macro_rules! request_body_rows_by_name {
     ($lines:ident!($($arguments:tt)*)) => {
         $lines! {
             $($arguments)*;
@@ -82,11 +69,8 @@ impl RequestBody {
 
 /// The fields of a request body, as the rows of its table are read.
 type RequestBodyRows = (
-    OptionalField<String>,
-    (
-        RequiredField<BTreeMap<String, RefOr<Content>>>,
-        (OptionalField<Required>, ()),
-    ),
+    RequiredField<BTreeMap<String, RefOr<Content>>>,
+    (OptionalField<String>, (OptionalField<Required>, ())),
 );
 
 /// The request body of these fields.
@@ -97,13 +81,24 @@ fn request_body_of(fields: RequestBodyRows, extensions: Option<Extensions>) -> R
     request_body_rows!(from_fields!(RequestBody, fields, extensions))
 }
 
-/// A body of a request, by its member table.
-impl Tree for RequestBody {
-    ghost use Rattle.utoipa_operation_parts.specs.RequestBody.{request_body_of_kind};
-
+impl Documented for RequestBody {
     ghost kind = { named request_body_object };
 
     ghost doc = { request_body_doc };
+}
+
+/// A body of a request, by its member table.
+impl Emit for RequestBody {
+    fn emit<S: JsonSink>(&self, out: &mut S) -> Result<(), AllocError> {
+        let names = request_body_rows!(row_names!());
+        let values = request_body_rows!(row_values!(self));
+        emit_table(out, names, &values, &self.extensions)
+    }
+}
+
+/// A body of a request, by its member table.
+impl Tree for RequestBody {
+    ghost use Rattle.utoipa_operation_parts.specs.RequestBody.{request_body_of_kind};
 
     ghost is_of_kind = { request_body_of_kind };
 
@@ -115,18 +110,6 @@ impl Tree for RequestBody {
         let names = request_body_rows!(row_names!());
         let (fields, extensions) = read_table(alloc, tree, "RequestBody", names, readings)?;
         Ok(request_body_of(fields, extensions))
-    }
-
-    fn to_value(&self, alloc: Global) -> Result<Value, AllocError> {
-        let names = request_body_rows!(row_names!());
-        let values = request_body_rows!(row_values!(self));
-        write_table(alloc, names, &values, &self.extensions)
-    }
-
-    fn print(&self, alloc: Global, out: &mut Writer) -> Result<(), AllocError> {
-        let names = request_body_rows_by_name!(row_names!());
-        let values = request_body_rows_by_name!(row_values!(self));
-        print_table(alloc, out, names, &values, &self.extensions)
     }
 
     fn try_clone(&self, alloc: Global) -> Result<RequestBody, AllocError> {

@@ -1,5 +1,5 @@
 //! Responses of operations.
-ghost use Rattle.std.specs.Prelude.{◌≡◌, [], IfOk, OnOk, refl, false, string_cmp, string_eq};
+ghost use Rattle.std.specs.Prelude.{◌≡◌, [], IfOk, OnOk, false, string_cmp, string_eq};
 ghost use Rattle.std.specs.BTreeMap.{insert_entry};
 ghost use Rattle.std.specs.Iterator.{IsFinite, Drains};
 ghost use Rattle.indexmap.specs.IndexMap.{insert_entry as insert_in_order};
@@ -16,35 +16,20 @@ ghost use Rattle.utoipa_operation_parts.specs.declared.response.Response.{Respon
 use crate::json_schema::{json_media_type, json_schema_content};
 use crate::traits::{IntoResponses, put_responses};
 use indexmap::IndexMap;
-use json::Writer;
 use serde_json::Value;
 use std::alloc::{AllocError, Global};
 use std::collections::BTreeMap;
 use utoipa_base::{
-    Extensions, Place, ReadFault, Readings, Ref, RefOr, Tree, clone_extensions, clone_table,
-    from_fields, print_entries, print_table, put, put_each, read_entries, read_table, row_names,
-    row_values, write_entries, write_table,
+    Documented, Emit, Extensions, JsonSink, NameHasher, OrderedMap, Place, ReadFault, Readings,
+    Ref, RefOr, Tree, clone_extensions, clone_table, emit_entries, emit_table, from_fields, put,
+    put_each, read_entries, read_table, row_names, row_values,
 };
 use utoipa_media::content::Content;
 use utoipa_media::header::Header;
 use utoipa_media::link::Link;
 
-// The rows of a response, in the order of its member table: mark, member, field.
+// The rows of a response, in the order of the members' names: mark, member, field.
 macro_rules! response_rows {
-    ($lines:ident!($($arguments:tt)*)) => {
-        $lines! {
-            $($arguments)*;
-            optional "summary" summary,
-            defaulted "description" description,
-            defaulted "headers" headers,
-            defaulted "content" content,
-            defaulted "links" links,
-        }
-    };
-}
-
-// The same, in the order of the members' names.
-macro_rules! response_rows_by_name {
     ($lines:ident!($($arguments:tt)*)) => {
         $lines! {
             $($arguments)*;
@@ -68,7 +53,7 @@ pub struct Response {
     pub headers: BTreeMap<String, RefOr<Header>>,
     /// The contents that the response may have, by their media types, in the order in which they were put. They are written and
     /// read in the order of the media types.
-    pub content: IndexMap<String, RefOr<Content>>,
+    pub content: OrderedMap<RefOr<Content>>,
     /// The links that can follow the response, by their names.
     pub links: BTreeMap<String, RefOr<Link>>,
     /// Specification extensions.
@@ -86,7 +71,7 @@ impl Response {
             summary: None,
             description,
             headers: BTreeMap::new(alloc),
-            content: IndexMap::new(alloc),
+            content: IndexMap::with_hasher(alloc, NameHasher::new()),
             links: BTreeMap::new(alloc),
             extensions: None,
         }
@@ -100,13 +85,26 @@ impl Response {
     }
 }
 
-/// A response, by its member table.
-impl Tree for Response {
-    ghost use Rattle.utoipa_operation_parts.specs.Response.{response_doc, response_of_kind};
+impl Documented for Response {
+    ghost use Rattle.utoipa_operation_parts.specs.Response.{response_doc};
 
     ghost kind = { named response_object };
 
     ghost doc = { response_doc };
+}
+
+/// A response, by its member table.
+impl Emit for Response {
+    fn emit<S: JsonSink>(&self, out: &mut S) -> Result<(), AllocError> {
+        let names = response_rows!(row_names!());
+        let values = response_rows!(row_values!(self));
+        emit_table(out, names, &values, &self.extensions)
+    }
+}
+
+/// A response, by its member table.
+impl Tree for Response {
+    ghost use Rattle.utoipa_operation_parts.specs.Response.{response_of_kind};
 
     ghost is_of_kind = { response_of_kind };
 
@@ -118,18 +116,6 @@ impl Tree for Response {
         let names = response_rows!(row_names!());
         let (fields, extensions) = read_table(alloc, tree, "Response", names, readings)?;
         Ok(response_rows!(from_fields!(Response, fields, extensions)))
-    }
-
-    fn to_value(&self, alloc: Global) -> Result<Value, AllocError> {
-        let names = response_rows!(row_names!());
-        let values = response_rows!(row_values!(self));
-        write_table(alloc, names, &values, &self.extensions)
-    }
-
-    fn print(&self, alloc: Global, out: &mut Writer) -> Result<(), AllocError> {
-        let names = response_rows_by_name!(row_names!());
-        let values = response_rows_by_name!(row_values!(self));
-        print_table(alloc, out, names, &values, &self.extensions)
     }
 
     fn try_clone(&self, alloc: Global) -> Result<Response, AllocError> {
@@ -262,11 +248,7 @@ impl ResponseBuilder {
 
 /// Puts a value into a map that keeps its order: in place of an earlier one of that name, and after all others where there is none.
 /// Fails where memory runs out, and then gives it up.
-fn put_in_order<T: Drop>(
-    map: &mut IndexMap<String, T>,
-    name: String,
-    value: T,
-) -> Result<(), AllocError>
+fn put_in_order<T: Drop>(map: &mut OrderedMap<T>, name: String, value: T) -> Result<(), AllocError>
     ensures { OnOk result (map.new.entries ≡ insert_in_order string_eq map.old.entries name value) }
 {
     drop(map.insert(name, value)?);
@@ -392,13 +374,24 @@ impl Responses {
     }
 }
 
-/// The responses of an operation: every member that is no extension.
-impl Tree for Responses {
-    ghost use Rattle.utoipa_operation_parts.specs.Responses.{responses_doc, responses_of_kind};
+impl Documented for Responses {
+    ghost use Rattle.utoipa_operation_parts.specs.Responses.{responses_doc};
 
     ghost kind = { responses_kind };
 
     ghost doc = { responses_doc };
+}
+
+/// The responses of an operation: every member that is no extension.
+impl Emit for Responses {
+    fn emit<S: JsonSink>(&self, out: &mut S) -> Result<(), AllocError> {
+        emit_entries(out, &self.responses, &self.extensions)
+    }
+}
+
+/// The responses of an operation: every member that is no extension.
+impl Tree for Responses {
+    ghost use Rattle.utoipa_operation_parts.specs.Responses.{responses_of_kind};
 
     ghost is_of_kind = { responses_of_kind };
 
@@ -412,14 +405,6 @@ impl Tree for Responses {
             responses,
             extensions,
         })
-    }
-
-    fn to_value(&self, alloc: Global) -> Result<Value, AllocError> {
-        write_entries(alloc, &self.responses, &self.extensions)
-    }
-
-    fn print(&self, alloc: Global, out: &mut Writer) -> Result<(), AllocError> {
-        print_entries(alloc, out, &self.responses, &self.extensions)
     }
 
     fn try_clone(&self, alloc: Global) -> Result<Responses, AllocError> {

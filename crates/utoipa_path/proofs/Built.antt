@@ -16,10 +16,6 @@ pub built_where_set : {T U E B : Type 0} (made : Result T E) (P : T → Type 0) 
 built_where_set made P field (Ok v) b r Q holds is answered h = subst (λ s. IfOk s Q) (sym answered) (h (subst (λ m. IfOk m P) is holds))
 built_where_set made P field (Err e) b r Q holds is answered h = subst (λ s. IfOk s Q) (sym answered) tt
 
--- what holds of a value that was made
-pub made_as : {T E : Type 0} (P : T → Type 0) (made : Result T E) (v : T) → IfOk made P → made ≡ Ok v → P v
-made_as P made v holds is = subst (λ r. IfOk r P) is holds
-
 -- ---- reading
 
 -- a value is read where it was filled

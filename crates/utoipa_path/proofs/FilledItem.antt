@@ -6,11 +6,11 @@ use Rattle.utoipa_base.specs.Docs.{map_doc, entries_of_list}
 use Rattle.utoipa_base.specs.Views.{pairs_of}
 use Rattle.utoipa_base.proofs.TableParts.{same_field}
 use Rattle.utoipa_merging.specs.Merged.{IsInOrder, IsItemMerged}
-use Rattle.utoipa_merging.specs.Slots.{field_at, base, operation, additional, get_method, put_method, post_method, delete_method, options_method, head_method, patch_method, trace_method, query_method}
+use Rattle.utoipa_merging.specs.Slots.{field_at, rest_docs, base, operation, additional, get_method, put_method, post_method, delete_method, options_method, head_method, patch_method, trace_method, query_method}
 use Rattle.utoipa_merging.proofs.Filled.{filled_field, filled_map}
 use Rattle.utoipa_merging.proofs.MapViews.{in_order-map, ordered-map}
 use Rattle.utoipa_path.specs.Builders.{Operations, PathItemFields}
-use Rattle.utoipa_path.specs.Docs.{operation_doc, path_item_table, path_item_layer}
+use Rattle.utoipa_path.specs.Docs.{operation_doc, operations_of, path_item_table, path_item_layer}
 use Rattle.utoipa_path.specs.Methods.{filled}
 
 -- each operation is that of the first item, or else that of the second, and all else is the first's
@@ -32,14 +32,7 @@ filled_item i j more names (additional name) = filled_map operation_doc more i.a
 pub same_additional : (i : PathItemFields) (more : Operations) → more.entries ≡ i.additional_operations.entries → path_item_layer operation_doc (record i { additional_operations = more }) ≡ path_item_layer operation_doc i
 same_additional i more is =
     ap (λ ds. path_item_table ds i)
-    (same_field _ _ _ _ refl
-    (same_field _ _ _ _ refl
-    (same_field _ _ _ _ refl
-    (same_field _ _ _ _ refl
-    (same_field _ _ _ _ refl
-    (same_field _ _ _ _ refl
-    (same_field _ _ _ _ refl
-    (same_field _ _ _ _ refl (same_field _ _ _ _ refl (same_field _ _ _ _ (ap (λ es. map_doc (entries_of_list (pairs_of operation_doc es))) is) refl))))))))))
+    (same_field _ _ (rest_docs (operations_of operation_doc i)) (rest_docs (operations_of operation_doc i)) (ap (λ es. map_doc (entries_of_list (pairs_of operation_doc es))) is) refl)
 
 -- the additional operations stand in order where they did
 pub additional_in_order : (i j : PathItemFields) (more : Operations) → (IsOrdered string_cmp i.additional_operations → IsOrdered string_cmp more)

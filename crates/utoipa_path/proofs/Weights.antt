@@ -23,7 +23,7 @@ pub lighter_operations : (i : PathItem) → docs_weight (operations_of operation
 unfolding weight docs_weight
 lighter_operations i = omega arith
 
--- each member that holds operations, in the order of the table
+-- each member that holds operations
 pub among_operations : (i : PathItem) → (weight (option_of operation_doc (out-PathItem i).get) ≤ docs_weight (operations_of operation_doc (out-PathItem i)))
     × (weight (option_of operation_doc (out-PathItem i).put) ≤ docs_weight (operations_of operation_doc (out-PathItem i)))
     × (weight (option_of operation_doc (out-PathItem i).post) ≤ docs_weight (operations_of operation_doc (out-PathItem i)))
@@ -47,19 +47,3 @@ among_methods Options i = (among_operations i).4
 among_methods Head i = (among_operations i).5
 among_methods Patch i = (among_operations i).6
 among_methods Trace i = (among_operations i).7
-
--- and so each of them is lighter than the path item
-pub held_by_path_item : (i : PathItem) → (weight (option_of operation_doc (out-PathItem i).get) < weight (path_item_doc i))
-    × (weight (option_of operation_doc (out-PathItem i).put) < weight (path_item_doc i))
-    × (weight (option_of operation_doc (out-PathItem i).post) < weight (path_item_doc i))
-    × (weight (option_of operation_doc (out-PathItem i).delete) < weight (path_item_doc i))
-    × (weight (option_of operation_doc (out-PathItem i).options) < weight (path_item_doc i))
-    × (weight (option_of operation_doc (out-PathItem i).head) < weight (path_item_doc i))
-    × (weight (option_of operation_doc (out-PathItem i).patch) < weight (path_item_doc i))
-    × (weight (option_of operation_doc (out-PathItem i).trace) < weight (path_item_doc i))
-    × (weight (option_of operation_doc (out-PathItem i).query) < weight (path_item_doc i))
-    × (weight (map_of_docs operation_doc (out-PathItem i).additional_operations) < weight (path_item_doc i))
-held_by_path_item i =
-    let each = among_operations i in
-    let all = lighter_operations i in
-    (omega (arith, each.0, all), omega (arith, each.1, all), omega (arith, each.2, all), omega (arith, each.3, all), omega (arith, each.4, all), omega (arith, each.5, all), omega (arith, each.6, all), omega (arith, each.7, all), omega (arith, each.8, all), omega (arith, each.9, all))

@@ -20,13 +20,17 @@ ghost use Rattle.utoipa_path.specs.declared.types.PathItem.{PathItem, out-PathIt
 
 use crate::methods::{operation_of, replace_operation};
 use crate::path_item::empty_path_item;
-use crate::rows::{base_rows, description_rows, from_rows, message_rows, over_rows, use_rows};
+use crate::rows::{
+    base_rows, from_rows, operation_rows_after_callbacks, operation_rows_last, over_rows,
+};
 use crate::types::{Callback, Operation, PathItem};
 use std::alloc::{AllocError, Global};
 use std::collections::BTreeMap;
 use std::mem;
 use utoipa_base::table::CloneRows;
-use utoipa_base::{Extensions, Ref, RefOr, Tree, clone_extensions, row_fields, row_values};
+use utoipa_base::{
+    Extensions, Ref, RefOr, Tree, clone_extensions, clone_rows_beside, row_fields, row_values,
+};
 use utoipa_leaf::path::HttpMethod;
 
 /// Copies an operation. Fails where memory runs out.
@@ -330,43 +334,39 @@ fn clone_operation_with(
     ensures { IfOk result (λ copy. callbacks_doc callbacks ≡ callbacks_doc (out-Operation operation.now).callbacks
         → operation_doc copy ≡ operation_doc operation.now) }
 {
-    let (head, message, callbacks, uses, extensions) = clone_around(
+    let (rows, callbacks, last, extensions) = clone_around(
         alloc,
-        &description_rows!(row_values!(operation)),
-        &message_rows!(row_values!(operation)),
+        &operation_rows_after_callbacks!(row_values!(operation)),
         callbacks,
-        &use_rows!(row_values!(operation)),
+        &operation_rows_last!(row_values!(operation)),
         &operation.extensions,
     )?;
-    Ok(use_rows!(from_rows!(
+    Ok(operation_rows_last!(from_rows!(
         Operation { callbacks, extensions, }
-        [message message_rows head description_rows] uses
+        [rows operation_rows_after_callbacks] last
     )))
 }
 
-/// Copies of the fields of some rows, in three parts, and of the extensions beside them; what is kept is handed back before the last
-/// part. Fails where memory runs out, and then gives up what was kept.
+/// Copies of the fields of some rows, in two parts, and of the extensions beside them; what is kept is handed back between the parts.
+/// Fails where memory runs out, and then gives up what was kept.
 ///
 /// What is kept is of any type here, so that to give it up is one call at each part that may not be copied.
-fn clone_around<F: CloneRows, S: CloneRows, K: Drop, L: CloneRows>(
+fn clone_around<F: CloneRows, K: Drop, L: CloneRows>(
     alloc: Global,
     first: &F,
-    second: &S,
     kept: K,
     last: &L,
     extensions: &Option<Extensions>,
-) -> Result<(F::Fields, S::Fields, K, L::Fields, Option<Extensions>), AllocError>
+) -> Result<(F::Fields, K, L::Fields, Option<Extensions>), AllocError>
     ensures { IfOk result (λ copy. (F.Fields.docs copy.0 ≡ F.docs first.now)
-        × (S.Fields.docs copy.1 ≡ S.docs second.now)
-        × (copy.2 ≡ kept)
-        × (L.Fields.docs copy.3 ≡ L.docs last.now)
-        × (option_map extensions_view copy.4 ≡ option_map extensions_view extensions.now)) }
+        × (copy.1 ≡ kept)
+        × (L.Fields.docs copy.2 ≡ L.docs last.now)
+        × (option_map extensions_view copy.3 ≡ option_map extensions_view extensions.now)) }
 {
     let before = first.clone_fields(alloc)?;
-    let between = second.clone_fields(alloc)?;
     let after = last.clone_fields(alloc)?;
     let copy = clone_extensions(alloc, extensions)?;
-    Ok((before, between, kept, after, copy))
+    Ok((before, kept, after, copy))
 }
 
 /// Makes a path item that has copies of the operations of another a copy of it. Fails where memory runs out, and then gives up the
@@ -397,13 +397,11 @@ fn clone_path_item_with(
         ≡ operations_of operation_doc (out-PathItem item.now)
         → path_item_doc copy ≡ path_item_doc item.now) }
 {
-    let (base, (), operations, (), extensions) = clone_around(
+    let (base, extensions, operations) = clone_rows_beside(
         alloc,
         &base_rows!(row_values!(item)),
-        &(),
-        operations,
-        &(),
         &item.extensions,
+        operations,
     )?;
     Ok(base_rows!(over_rows!(PathItem { extensions, } operations base)))
 }

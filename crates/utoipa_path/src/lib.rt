@@ -3,16 +3,15 @@
 
 mod assemble;
 mod copy;
+mod emit;
 mod lists;
 pub mod methods;
 pub mod operation;
 pub mod path_item;
-mod print;
 mod read;
 mod rows;
 pub mod trees;
 mod types;
-mod write;
 
 pub use operation::{Callback, Operation, OperationBuilder};
 pub use path_item::{PathItem, PathItemBuilder};

@@ -140,16 +140,16 @@ fn fill_operations(
     ensures { Reads (part operations_rows (view tree.now)) (λ _. list_doc (operations_of operation_doc (out-PathItem item.new))) result
         readings.old readings.new (rows_values operations_rows (view tree.now)) }
 {
-    fill_method(item, alloc, tree, HttpMethod::Get, "get", readings)?;
-    fill_method(item, alloc, tree, HttpMethod::Put, "put", readings)?;
-    fill_method(item, alloc, tree, HttpMethod::Post, "post", readings)?;
-    fill_method(item, alloc, tree, HttpMethod::Delete, "delete", readings)?;
-    fill_method(item, alloc, tree, HttpMethod::Options, "options", readings)?;
-    fill_method(item, alloc, tree, HttpMethod::Head, "head", readings)?;
-    fill_method(item, alloc, tree, HttpMethod::Patch, "patch", readings)?;
-    fill_method(item, alloc, tree, HttpMethod::Trace, "trace", readings)?;
-    fill_query(item, alloc, tree, readings)?;
     fill_additional_operations(item, alloc, tree, readings)?;
+    fill_method(item, alloc, tree, HttpMethod::Delete, "delete", readings)?;
+    fill_method(item, alloc, tree, HttpMethod::Get, "get", readings)?;
+    fill_method(item, alloc, tree, HttpMethod::Head, "head", readings)?;
+    fill_method(item, alloc, tree, HttpMethod::Options, "options", readings)?;
+    fill_method(item, alloc, tree, HttpMethod::Patch, "patch", readings)?;
+    fill_method(item, alloc, tree, HttpMethod::Post, "post", readings)?;
+    fill_method(item, alloc, tree, HttpMethod::Put, "put", readings)?;
+    fill_query(item, alloc, tree, readings)?;
+    fill_method(item, alloc, tree, HttpMethod::Trace, "trace", readings)?;
     Ok(())
 }
 

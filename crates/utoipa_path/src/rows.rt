@@ -1,23 +1,14 @@
-//! The rows of operations and path items that hold none of these themselves, in the order of their member tables: mark, member,
+//! The rows of operations and path items that hold none of these themselves, in the order of the members' names: mark, member,
 //! field.
 
-macro_rules! description_rows {
+macro_rules! operation_rows_after_callbacks {
     ($lines:ident!($($arguments:tt)*)) => {
         $lines! {
             $($arguments)*;
-            optional "tags" tags,
-            optional "summary" summary,
+            optional "deprecated" deprecated,
             optional "description" description,
-            optional "operationId" operation_id,
             optional "externalDocs" external_docs,
-        }
-    };
-}
-
-macro_rules! message_rows {
-    ($lines:ident!($($arguments:tt)*)) => {
-        $lines! {
-            $($arguments)*;
+            optional "operationId" operation_id,
             optional "parameters" parameters,
             optional "requestBody" request_body,
             required "responses" responses,
@@ -25,13 +16,14 @@ macro_rules! message_rows {
     };
 }
 
-macro_rules! use_rows {
+macro_rules! operation_rows_last {
     ($lines:ident!($($arguments:tt)*)) => {
         $lines! {
             $($arguments)*;
-            optional "deprecated" deprecated,
             optional "security" security,
             optional "servers" servers,
+            optional "summary" summary,
+            optional "tags" tags,
         }
     };
 }
@@ -41,10 +33,10 @@ macro_rules! base_rows {
         $lines! {
             $($arguments)*;
             optional "$ref" ref_path,
-            optional "summary" summary,
             optional "description" description,
-            optional "servers" servers,
             optional "parameters" parameters,
+            optional "servers" servers,
+            optional "summary" summary,
         }
     };
 }
@@ -56,9 +48,9 @@ macro_rules! from_rows {
         let row_fields!($($mark $field,)*) = $part;
         $type { $($fields)* $($field,)* }
     }};
-    ($type:ident {$($fields:tt)*} [$next:ident $rows:ident $($others:ident)*] $part:ident; $($mark:ident $name:literal $field:ident,)*) => {{
+    ($type:ident {$($fields:tt)*} [$next:ident $rows:ident] $part:ident; $($mark:ident $name:literal $field:ident,)*) => {{
         let row_fields!($($mark $field,)*) = $part;
-        $rows!(from_rows!($type {$($fields)* $($field,)*} [$($others)*] $next))
+        $rows!(from_rows!($type {$($fields)* $($field,)*} [] $next))
     }};
 }
 
@@ -71,8 +63,7 @@ macro_rules! over_rows {
 }
 
 pub(crate) use base_rows;
-pub(crate) use description_rows;
 pub(crate) use from_rows;
-pub(crate) use message_rows;
+pub(crate) use operation_rows_after_callbacks;
+pub(crate) use operation_rows_last;
 pub(crate) use over_rows;
-pub(crate) use use_rows;

@@ -1,27 +1,20 @@
 //! Operations and path items are read from trees and written as trees.
-ghost use Rattle.std.specs.Prelude.{false, refl};
+ghost use Rattle.std.specs.Prelude.{false};
 ghost use Rattle.serde_json.specs.View.{view};
-ghost use Rattle.utoipa_base.specs.Kinds.{named, operation_object, path_item_object};
 ghost use Rattle.utoipa_base.specs.Reading.{read as read_as};
 ghost use Rattle.utoipa_base.specs.Reads.{Reads};
 ghost use Rattle.utoipa_base.specs.Values.{values};
-ghost use Rattle.utoipa_path.specs.Docs.{operation_doc, path_item_doc};
 ghost use Rattle.utoipa_path.specs.OfKind.{operation_of_kind, path_item_of_kind};
 
 use crate::types::{Callback, Operation, PathItem};
-use crate::{copy, print, read, write};
-use json::Writer;
+use crate::{copy, read};
 use serde_json::Value;
 use std::alloc::{AllocError, Global};
 use std::collections::BTreeMap;
-use utoipa_base::{Place, ReadFault, Readings, RefOr, Tree};
+use utoipa_base::{Documented, Place, ReadFault, Readings, RefOr, Tree};
 
 /// An operation, by its member table.
 impl Tree for Operation {
-    ghost kind = { named operation_object };
-
-    ghost doc = { operation_doc };
-
     ghost is_of_kind = { operation_of_kind };
 
     fn read_plain(
@@ -30,14 +23,6 @@ impl Tree for Operation {
         readings: &mut Readings,
     ) -> Result<Operation, ReadFault> {
         read::read_operation(alloc, tree, readings)
-    }
-
-    fn to_value(&self, alloc: Global) -> Result<Value, AllocError> {
-        write::write_operation(alloc, self)
-    }
-
-    fn print(&self, alloc: Global, out: &mut Writer) -> Result<(), AllocError> {
-        print::print_operation(alloc, self, out)
     }
 
     fn try_clone(&self, alloc: Global) -> Result<Operation, AllocError> {
@@ -54,10 +39,6 @@ impl Place for Operation {
 
 /// A path item, by its member table.
 impl Tree for PathItem {
-    ghost kind = { named path_item_object };
-
-    ghost doc = { path_item_doc };
-
     ghost is_of_kind = { path_item_of_kind };
 
     fn read_plain(
@@ -66,14 +47,6 @@ impl Tree for PathItem {
         readings: &mut Readings,
     ) -> Result<PathItem, ReadFault> {
         read::read_path_item(alloc, tree, readings)
-    }
-
-    fn to_value(&self, alloc: Global) -> Result<Value, AllocError> {
-        write::write_path_item(alloc, self)
-    }
-
-    fn print(&self, alloc: Global, out: &mut Writer) -> Result<(), AllocError> {
-        print::print_path_item(alloc, self, out)
     }
 
     fn try_clone(&self, alloc: Global) -> Result<PathItem, AllocError> {
@@ -96,7 +69,7 @@ pub fn read_callback(
     tree: &Value,
     readings: &mut Readings,
 ) -> Result<Callback, ReadFault>
-    ensures { Reads (read_as ⟦<BTreeMap<String, RefOr<PathItem>> as Tree>⟧.kind (view tree.now)) ⟦<BTreeMap<String, RefOr<PathItem>> as Tree>⟧.doc result
+    ensures { Reads (read_as ⟦<BTreeMap<String, RefOr<PathItem>> as Documented>⟧.kind (view tree.now)) ⟦<BTreeMap<String, RefOr<PathItem>> as Documented>⟧.doc result
         readings.old readings.new (values (view tree.now)) }
 {
     read::read_callback(alloc, tree, readings)
@@ -110,7 +83,7 @@ pub fn read_ref_or_callback(
     tree: &Value,
     readings: &mut Readings,
 ) -> Result<RefOr<Callback>, ReadFault>
-    ensures { Reads (read_as ⟦<RefOr<BTreeMap<String, RefOr<PathItem>>> as Tree>⟧.kind (view tree.now)) ⟦<RefOr<BTreeMap<String, RefOr<PathItem>>> as Tree>⟧.doc result
+    ensures { Reads (read_as ⟦<RefOr<BTreeMap<String, RefOr<PathItem>>> as Documented>⟧.kind (view tree.now)) ⟦<RefOr<BTreeMap<String, RefOr<PathItem>>> as Documented>⟧.doc result
         readings.old readings.new (values (view tree.now)) }
 {
     read::read_ref_or_callback(alloc, tree, readings)
@@ -124,7 +97,7 @@ pub fn read_operation_map(
     tree: &Value,
     readings: &mut Readings,
 ) -> Result<BTreeMap<String, Operation>, ReadFault>
-    ensures { Reads (read_as ⟦<BTreeMap<String, Operation> as Tree>⟧.kind (view tree.now)) ⟦<BTreeMap<String, Operation> as Tree>⟧.doc result
+    ensures { Reads (read_as ⟦<BTreeMap<String, Operation> as Documented>⟧.kind (view tree.now)) ⟦<BTreeMap<String, Operation> as Documented>⟧.doc result
         readings.old readings.new (values (view tree.now)) }
 {
     read::read_operation_map(alloc, tree, readings)

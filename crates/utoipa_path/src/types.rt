@@ -49,10 +49,6 @@ pub struct PathItem {
     pub summary: Option<String>,
     /// What the path is for.
     pub description: Option<String>,
-    /// The servers of the operations that have none of their own.
-    pub servers: Option<Vec<Server>>,
-    /// The parameters that all operations of the path have.
-    pub parameters: Option<Vec<RefOr<Parameter>>>,
     /// The operation of the method GET.
     pub get: Option<Operation>,
     /// The operation of the method PUT.
@@ -73,6 +69,10 @@ pub struct PathItem {
     pub query: Option<Operation>,
     /// The operations of other methods, by the methods' names: the member `additionalOperations`.
     pub additional_operations: BTreeMap<String, Operation>,
+    /// The servers of the operations that have none of their own.
+    pub servers: Option<Vec<Server>>,
+    /// The parameters that all operations of the path have.
+    pub parameters: Option<Vec<RefOr<Parameter>>>,
     /// Specification extensions.
     pub extensions: Option<Extensions>,
 }

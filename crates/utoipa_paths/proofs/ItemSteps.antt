@@ -20,7 +20,7 @@ use Rattle.utoipa_merging.proofs.PutEach.{found-put_each, sorted-put_each}
 use Rattle.utoipa_merging.proofs.MapViews.{in_order-map, ordered-map}
 use Rattle.utoipa_path.specs.Docs.{path_item_doc}
 use Rattle.utoipa_path.specs.declared.types.PathItem.{PathItem}
-use Rattle.utoipa_paths.specs.Items.{ItemsByPath, IsMergedWith, IsMergedOver, AreMergedOver, IsItemInOrder, IsInOrderIfAny, AreItemsInOrder}
+use Rattle.utoipa_paths.specs.Items.{ItemsByPath, IsMergedWith, IsMergedOver, IsPutUnder, AreMergedOver, IsItemInOrder, IsInOrderIfAny, AreItemsInOrder}
 
 -- ---- one item
 
@@ -172,3 +172,8 @@ all_or_none_in_order (Ok v) standing merged new before over ok err =
     (subst (λ es. IsStrictlySortedBy string_cmp (keys_of es)) (sym ok) (sorted-put_each merged.entries standing.entries (paths_ordered standing before)))
     (λ q. ap (λ es. found es q) ok ∙ found-put_each merged.entries standing.entries (paths_ordered merged over) q)
 all_or_none_in_order (Err e) standing merged new before over ok err = same_in_order standing new err before
+
+-- one item was put under a path, or none
+pub put_or_kept_in_order : {T E : Type 0} (r : Result T E) (old new : ItemsByPath) (path : List ℕ) (item : PathItem) → AreItemsInOrder old → IsItemInOrder item → OnOk r (IsPutUnder path item old new) → OnErr r (new.entries ≡ old.entries) → AreItemsInOrder new
+put_or_kept_in_order (Ok v) old new path item before here ok err = put_in_order old new path item before ok.ordered here ok.values
+put_or_kept_in_order (Err e) old new path item before here ok err = same_in_order old new err before

@@ -1,5 +1,5 @@
 -- Paths whose items and extensions were merged.
-use Rattle.std.proofs.Common.{◌≡◌, List, [], ◌∷◌, ◌++◌, Bool, ◌||◌, Option, Some, None, IfSome, codes, option_map, map, refl, sym, ap, ◌∙◌, subst}
+use Rattle.std.proofs.Common.{◌≡◌, List, [], ◌∷◌, ◌++◌, Option, Some, None, IfSome, codes, option_map, map, refl, sym, ap, ◌∙◌, subst}
 use Rattle.std.specs.Option.{is_some}
 use Rattle.std.specs.BTreeMap.{get_by_text}
 use Rattle.std.specs.List.{AllByRecursion}
@@ -8,9 +8,9 @@ use Rattle.std.proofs.lemmas.List.{map-append}
 use Rattle.utoipa_base.specs.Docs.{Doc, entries_doc, entries_of_list}
 use Rattle.utoipa_base.specs.Fill.{Pairs}
 use Rattle.utoipa_base.specs.Extensions.{extensions_view}
-use Rattle.utoipa_base.specs.Views.{map_of_docs, pairs_of}
+use Rattle.utoipa_base.specs.Views.{pairs_of}
 use Rattle.utoipa_base.specs.declared.extensions.Extensions.{Extensions}
-use Rattle.utoipa_merging.specs.Merged.{AreItemsMerged, ArePathsMerged, ArePathsInOrder, IsInOrder}
+use Rattle.utoipa_merging.specs.Merged.{ArePathsMerged, ArePathsInOrder, IsInOrder}
 use Rattle.utoipa_merging.specs.Slots.{path_slot, has_extensions, field_at}
 use Rattle.utoipa_merging.proofs.Options.{or_none, or_false}
 use Rattle.utoipa_merging.proofs.Composition.{paths_compose}
@@ -19,7 +19,7 @@ use Rattle.utoipa_merging.proofs.MapViews.{entry_at-map}
 use Rattle.utoipa_path.specs.Docs.{path_item_doc}
 use Rattle.utoipa_path.specs.declared.types.PathItem.{PathItem}
 use Rattle.utoipa_paths.specs.Items.{AreItemsInOrder}
-use Rattle.utoipa_paths.specs.Paths.{paths_doc, IsEmptyPaths, extension_of, AreExtensionsMerged, AreExtensionsInOrder}
+use Rattle.utoipa_paths.specs.Paths.{paths_doc, IsEmptyPaths, extension_of, AreExtensionsInOrder}
 use Rattle.utoipa_paths.proofs.ItemSteps.{none_in_order}
 use Rattle.utoipa_paths.specs.declared.paths.Paths.{Paths}
 
@@ -28,19 +28,6 @@ use Rattle.utoipa_paths.specs.declared.paths.Paths.{Paths}
 viewed : (e : Option Extensions) → is_some (option_map extensions_view e) ≡ is_some e
 viewed None = refl
 viewed (Some x) = refl
-
--- the items and the extensions of two were merged
-pub paths_merged : (a b n : Paths) → AreItemsMerged (map_of_docs path_item_doc a.paths ∷ map_of_docs path_item_doc b.paths ∷ []) (map_of_docs path_item_doc n.paths)
-    → AreExtensionsMerged a.extensions b.extensions n.extensions → ArePathsMerged (paths_doc a ∷ paths_doc b ∷ []) (paths_doc n)
-paths_merged a b n items e =
-    record {
-      items = items;
-      extended = viewed n.extensions ∙ e.there ∙ both (sym (viewed a.extensions)) (sym (viewed b.extensions) ∙ sym (or_false (has_extensions (paths_doc b))));
-      extensions = e.values;
-    }
-  where
-    both : {p q r s : Bool} → p ≡ q → r ≡ s → (p || r) ≡ (q || s)
-    both h k = rw (h, k)
 
 -- one alone is merged
 paths_one : (d : Doc) → ArePathsMerged (d ∷ []) d

@@ -1,7 +1,7 @@
 -- Path items that are put at their paths, where others may stand.
-use Rattle.std.specs.Prelude.{◌≡◌, ℕ, List, [], ◌∷◌, Option, None, Some, if◌then◌else◌, IfSome, String, codes}
+use Rattle.std.specs.Prelude.{◌≡◌, ℕ, List, [], ◌∷◌, Option, None, Some, if◌then◌else◌, IfSome, String, string_cmp, codes}
 use Rattle.std.specs.Str.{bytes_eq}
-use Rattle.std.specs.BTreeMap.{BTreeMap, get_by_text}
+use Rattle.std.specs.BTreeMap.{BTreeMap, get_by_text, IsOrdered}
 use Rattle.std.specs.declared.alloc.Global.{Global}
 use Rattle.utoipa_base.specs.Docs.{Doc}
 use Rattle.utoipa_base.specs.Views.{map_of_docs}
@@ -31,6 +31,11 @@ pub record IsItemPut (path : List ℕ) (item : PathItem) (old new : ItemsByPath)
   pub now : PathItem
   pub merged : IsMergedWith (get_by_text old path) item now
   pub items : (q : List ℕ) → get_by_text new q ≡ if bytes_eq path q then Some now else get_by_text old q
+
+-- for a private clause: a value was put under a name, and under all others stands what stood there
+pub record IsPutUnder {T : Type 0} (name : List ℕ) (value : T) (old new : BTreeMap (String Global) T) : Type 0 where
+  pub values : (q : List ℕ) → get_by_text new q ≡ if bytes_eq name q then Some value else get_by_text old q
+  pub ordered : IsOrdered string_cmp new
 
 -- what stands at a path once the item was put that another map has there, if it has one
 abbrev pub IsMergedOver : (standing item now : Option PathItem) → Type 0

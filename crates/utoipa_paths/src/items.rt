@@ -3,7 +3,7 @@ ghost use Rattle.std.specs.Prelude.{◌≡◌, ◌∷◌, [], IfOk, OnOk, OnErr,
 ghost use Rattle.utoipa_base.specs.Views.{map_of_docs};
 ghost use Rattle.utoipa_merging.specs.Merged.{AreItemsMerged};
 ghost use Rattle.utoipa_path.specs.Docs.{path_item_doc};
-ghost use Rattle.utoipa_paths.specs.Items.{IsMergedWith, IsItemPut, AreMergedOver, IsItemInOrder, IsInOrderIfAny, AreItemsInOrder};
+ghost use Rattle.utoipa_paths.specs.Items.{IsMergedWith, IsItemPut, IsPutUnder, AreMergedOver, IsItemInOrder, IsInOrderIfAny, AreItemsInOrder};
 
 use crate::paths::PathsMap;
 use std::alloc::{AllocError, Global};
@@ -29,6 +29,21 @@ pub(crate) fn put_item(
             Ok(())
         }
     }
+}
+
+/// Puts a value into a map under a name, in place of an earlier one. Fails where memory runs out, and then gives it up, and the map is
+/// what it was.
+pub(crate) fn put_under<T: Drop>(
+    map: &mut BTreeMap<String, T>,
+    alloc: Global,
+    name: &str,
+    value: T,
+) -> Result<(), AllocError>
+    ensures ok { OnOk result (IsPutUnder name.now value map.old map.new) }
+    ensures err { OnErr result (map.new.entries ≡ map.old.entries) }
+{
+    drop(map.insert(String::from_str(alloc, name)?, value)?);
+    Ok(())
 }
 
 /// Puts each item of a map at its path, as [`put_item`] does. Fails where memory runs out, and then some items were put.

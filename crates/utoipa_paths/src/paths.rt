@@ -1,5 +1,5 @@
 //! The paths of an API.
-ghost use Rattle.std.specs.Prelude.{◌≡◌, ◌∷◌, [], None, IfOk, OnOk, OnErr, option_map};
+ghost use Rattle.std.specs.Prelude.{◌≡◌, ◌∷◌, [], None, OnOk, OnErr, option_map};
 ghost use Rattle.std.specs.BTreeMap.{get_by_text};
 ghost use Rattle.std.specs.Option.{option_and_then};
 ghost use Rattle.utoipa_base.specs.Tables.{paths as paths_kind};
@@ -10,15 +10,14 @@ ghost use Rattle.utoipa_path.specs.declared.types.PathItem.{out-PathItem};
 ghost use Rattle.utoipa_paths.specs.Paths.{paths_doc, paths_of_kind, built_paths, IsEmptyPaths, IsOperationAdded};
 
 use crate::builder::PathsBuilder;
-use crate::items::merge_items;
+use crate::items::{merge_items, put_under};
 use crate::merging::merged_extensions;
-use json::Writer;
 use serde_json::Value;
 use std::alloc::{AllocError, Global};
 use std::collections::BTreeMap;
 use utoipa_base::{
-    Extensions, ReadFault, Readings, Tree, clone_extensions, print_entries, read_entries,
-    write_entries,
+    Documented, Emit, Extensions, JsonSink, ReadFault, Readings, Tree, clone_extensions,
+    emit_entries, read_entries,
 };
 use utoipa_leaf::path::HttpMethod;
 use utoipa_path::methods::{operation_of, take_operations};
@@ -90,10 +89,12 @@ impl Paths {
     {
         let item = PathItem::from_http_methods(alloc, methods.into_iter(), operation)?;
         match self.paths.get_mut(path) {
-            Some(standing) => take_operations(standing, alloc, item),
-            None => drop(self.paths.insert(String::from_str(alloc, path)?, item)?),
+            Some(standing) => {
+                take_operations(standing, alloc, item);
+                Ok(())
+            }
+            None => put_under(&mut self.paths, alloc, path, item),
         }
-        Ok(())
     }
 
     /// Takes the paths of another value: the item of each new path whole, and for a path that both have the operations that are
@@ -117,12 +118,21 @@ impl Paths {
     }
 }
 
-/// Paths, whose members are path items but for the extensions.
-impl Tree for Paths {
+impl Documented for Paths {
     ghost kind = { paths_kind };
 
     ghost doc = { paths_doc };
+}
 
+/// Paths, whose members are path items but for the extensions.
+impl Emit for Paths {
+    fn emit<S: JsonSink>(&self, out: &mut S) -> Result<(), AllocError> {
+        emit_entries(out, &self.paths, &self.extensions)
+    }
+}
+
+/// Paths, whose members are path items but for the extensions.
+impl Tree for Paths {
     ghost is_of_kind = { paths_of_kind };
 
     fn read_plain(
@@ -132,14 +142,6 @@ impl Tree for Paths {
     ) -> Result<Paths, ReadFault> {
         let (paths, extensions) = read_entries(alloc, tree, "Paths", readings)?;
         Ok(Paths { paths, extensions })
-    }
-
-    fn to_value(&self, alloc: Global) -> Result<Value, AllocError> {
-        write_entries(alloc, &self.paths, &self.extensions)
-    }
-
-    fn print(&self, alloc: Global, out: &mut Writer) -> Result<(), AllocError> {
-        print_entries(alloc, out, &self.paths, &self.extensions)
     }
 
     fn try_clone(&self, alloc: Global) -> Result<Paths, AllocError> {

@@ -20,7 +20,9 @@ use Rattle.utoipa_base.specs.Tables.{row}
 use Rattle.utoipa_base.proofs.BoolFacts.{or_first, or_second}
 use Rattle.utoipa_base.proofs.ByRows.{table_refused, fields-first}
 use Rattle.utoipa_base.proofs.Members.{field_absent}
+use Rattle.utoipa_base.proofs.TableParts.{join-later}
 use Rattle.utoipa_schema.specs.Choice.{IsNoCombination}
+use Rattle.utoipa_schema.specs.Parts.{combination_rows}
 use Rattle.utoipa_schema.specs.Places.{InnerData, members_of, noted, found, data_of}
 use Rattle.utoipa_schema.specs.declared.inner_members.InnerMembers.{InnerMembers}
 
@@ -128,7 +130,7 @@ pub uncombined : (d : Data) (m : InnerMembers) → data_of m ≡ members_of d �
 uncombined d m found none =
     let places = list_of (ref_or schema) in
     let others = or_second (is_some m.one_of) _ none in (
-      refused_without m.one_of one_of_schema (codes "oneOf") places d (ap (λ n. n.one_of) found) (or_first _ _ none) (λ h. table_refused one_of_schema d (fields-first _ _ _ h)),
+      refused_without m.one_of one_of_schema (codes "oneOf") places d (ap (λ n. n.one_of) found) (or_first _ _ none) (λ h. table_refused one_of_schema d (join-later combination_rows _ d (fields-first _ _ _ h))),
       refused_without m.all_of all_of_schema (codes "allOf") places d (ap (λ n. n.all_of) found) (or_first _ _ others) (λ h. table_refused all_of_schema d (fields-first _ _ _ h)),
       refused_without m.any_of any_of_schema (codes "anyOf") places d (ap (λ n. n.any_of) found) (or_second (is_some m.all_of) _ others) (λ h. table_refused any_of_schema d (fields-first _ _ _ h)),
     )

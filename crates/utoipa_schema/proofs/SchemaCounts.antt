@@ -7,7 +7,7 @@ use Rattle.utoipa_base.specs.Fields.{field}
 use Rattle.utoipa_base.specs.Kinds.{named, array_schema, object_schema}
 use Rattle.utoipa_base.specs.Reading.{read}
 use Rattle.utoipa_base.specs.Values.{schema_count}
-use Rattle.utoipa_base.proofs.ByRows.{table_refused, fields-first}
+use Rattle.utoipa_base.proofs.ByRows.{table_refused, fields-first, fields-later}
 use Rattle.utoipa_base.proofs.Places.{schema_count-none}
 use Rattle.utoipa_base.proofs.TableParts.{join-later}
 use Rattle.utoipa_schema.specs.Choice.{content_schema_row, ContentSchema, content_schema_doc}
@@ -15,7 +15,7 @@ use Rattle.utoipa_schema.specs.Docs.{array_doc, object_doc}
 use Rattle.utoipa_schema.proofs.MemberCounts.{array_counts, object_counts}
 use Rattle.utoipa_schema.specs.declared.types.Array.{Array}
 use Rattle.utoipa_schema.specs.declared.types.Object.{Object}
-use Rattle.utoipa_schema.specs.Parts.{array_head_rows, array_schema_rows, array_annotation_rows, item_limit_and_representation_rows, content_schema_rows, object_head_rows, object_schema_rows, object_annotation_rows, number_limit_rows, size_limit_and_content_rows}
+use Rattle.utoipa_schema.specs.Parts.{text_content_rows}
 
 -- a schema is one schema more than its table has
 pub counts_one : (d : Doc) → schema_count (docs.schema_doc d) ≡ 1 + schema_count d
@@ -24,11 +24,11 @@ counts_one d = omega arith
 
 -- a tree whose content schema does not fit is no array
 pub no_array : (d : Data) → field content_schema_row d ≡ None → read (named array_schema) d ≡ None
-no_array d e = table_refused array_schema d (join-later array_head_rows _ d (join-later array_schema_rows _ d (join-later array_annotation_rows _ d (join-later item_limit_and_representation_rows content_schema_rows d (fields-first _ _ d e)))))
+no_array d e = table_refused array_schema d (join-later text_content_rows _ d (fields-first _ _ d e))
 
 -- nor an object
 pub no_object_table : (d : Data) → field content_schema_row d ≡ None → read (named object_schema) d ≡ None
-no_object_table d e = table_refused object_schema d (join-later object_head_rows _ d (join-later object_schema_rows _ d (join-later object_annotation_rows _ d (join-later number_limit_rows _ d (join-later size_limit_and_content_rows content_schema_rows d (fields-first _ _ d e))))))
+no_object_table d e = table_refused object_schema d (fields-later _ _ d (join-later text_content_rows _ d (fields-first _ _ d e)))
 
 -- ---- results
 

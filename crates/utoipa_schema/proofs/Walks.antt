@@ -1,13 +1,13 @@
 -- The walk that finds the places of a tree, and its way back.
-use Rattle.std.proofs.Common.{suc, ◌≡◌, ℕ, ◌+◌, ◌<◌, ◌≤◌, List, [], ◌∷◌, ◌++◌, length, map, Bool, Option, Some, None, is_some, true, false, refl, sym, ap, ◌∙◌, subst, arith, append_assoc, codes}
+use Rattle.std.proofs.Common.{suc, ◌≡◌, ℕ, ◌+◌, ◌<◌, ◌≤◌, List, [], ◌∷◌, ◌++◌, length, map, Bool, Option, Some, None, true, false, refl, sym, ap, ◌∙◌, subst, arith, append_assoc, codes}
 use Rattle.std.proofs.lemmas.List.{reverse-append, length-append, length-map}
 use Rattle.serde_json.specs.Data.{Data, null, boolean, number, string, array, object, Items, no_items, item, Members, no_members, member}
-use Rattle.serde_json.specs.Find.{get, as_array, as_object, as_null, as_bool}
+use Rattle.serde_json.specs.Find.{get, as_array, as_object}
 use Rattle.serde_json.specs.View.{view, items_view, members_view}
 use Rattle.serde_json.specs.declared.value.Value.{Value}
 use Rattle.serde_json.proofs.Views.{Entry}
 use Rattle.utoipa_base.specs.Values.{values, items_values, members_values, values_of, values_at}
-use Rattle.utoipa_schema.specs.Places.{Place, Stands, place_at, by_itself, next_in_list, items_list, elements_of, next_entries, entries_of, elements, entries, alone, part, in_list, in_map, in_one, InnerData, members_of, of_combinations, of_array, of_object, of_content, of_each, inner, total, Reached, Walked}
+use Rattle.utoipa_schema.specs.Places.{Place, Stands, place_at, next_in_list, items_list, elements_of, next_entries, entries_of, elements, entries, alone, part, in_list, in_map, in_one, InnerData, members_of, of_combinations, of_array, of_object, of_content, of_each, inner, total, Reached, Walked}
 use Rattle.utoipa_schema.proofs.SchemaMembers.{schema_values}
 
 -- ---- the elements of a list and the values of an object
@@ -24,14 +24,6 @@ elements-array b (string s) ds e = cc
 elements-array b (array es) ds e = (let q : es ≡ ds = cc in ap (elements_of b) q)
 elements-array b (object ms) ds e = cc
 
-pub elements-none : (b : Bool) (d : Data) → as_array d ≡ None → elements b d ≡ []
-elements-none b null e = refl
-elements-none b (boolean c) e = refl
-elements-none b (number n) e = refl
-elements-none b (string s) e = refl
-elements-none b (array es) e = cc
-elements-none b (object ms) e = refl
-
 pub entries-object : (b : Bool) (d : Data) (ms : Members) → Some ms ≡ as_object d → entries b d ≡ entries_of b ms
 entries-object b null ms e = cc
 entries-object b (boolean c) ms e = cc
@@ -39,38 +31,6 @@ entries-object b (number n) ms e = cc
 entries-object b (string s) ms e = cc
 entries-object b (array es) ms e = cc
 entries-object b (object ns) ms e = (let q : ns ≡ ms = cc in ap (entries_of b) q)
-
-pub entries-none : (b : Bool) (d : Data) → as_object d ≡ None → entries b d ≡ []
-entries-none b null e = refl
-entries-none b (boolean c) e = refl
-entries-none b (number n) e = refl
-entries-none b (string s) e = refl
-entries-none b (array es) e = refl
-entries-none b (object ms) e = cc
-
-pub alone-null : (b : Bool) (d : Data) → is_some (as_null d) ≡ true → alone b d ≡ []
-alone-null b null e = refl
-alone-null b (boolean c) e = cc
-alone-null b (number n) e = cc
-alone-null b (string s) e = cc
-alone-null b (array es) e = cc
-alone-null b (object ms) e = cc
-
-pub alone-boolean : (b : Bool) (d : Data) → is_some (as_bool d) ≡ true → alone b d ≡ []
-alone-boolean b null e = cc
-alone-boolean b (boolean c) e = refl
-alone-boolean b (number n) e = cc
-alone-boolean b (string s) e = cc
-alone-boolean b (array es) e = cc
-alone-boolean b (object ms) e = cc
-
-pub alone-other : (b : Bool) (d : Data) → is_some (as_null d) ≡ false → is_some (as_bool d) ≡ false → alone b d ≡ place_at b by_itself d ∷ []
-alone-other b null e f = cc
-alone-other b (boolean c) e f = cc
-alone-other b (number n) e f = refl
-alone-other b (string s) e f = refl
-alone-other b (array es) e f = refl
-alone-other b (object ms) e f = refl
 
 items_list-length : (vs : List Value) → length (items_list (items_view vs)) ≡ length vs
 items_list-length [] = refl

@@ -45,15 +45,15 @@ places_doc f = list_of_docs (ref_or_doc schema f)
 abbrev pub one_of_table : {A S B C D E F : Type 0} → Doc → OneOf-F A S B C D E F → Doc
 one_of_table items o =
     table_doc one_of_schema
-    (doc items
-    (doc (schema_type_doc o.schema_type)
-    (doc (option_of text_of o.title)
-    (doc (option_of text_of o.description)
     (doc (option_of tree_of o.default)
+    (doc (option_of text_of o.description)
+    (doc (option_of discriminator_doc o.discriminator)
     (doc (option_of tree_of o.example)
     (doc (list_of_docs tree_of o.examples)
-    (doc (option_of discriminator_doc o.discriminator)
+    (doc items
     (doc (option_of flag_doc o.read_only)
+    (doc (option_of text_of o.title)
+    (doc (schema_type_doc o.schema_type)
     (doc (option_of flag_doc o.write_only) no_docs))))))))))
     (option_map extensions_view o.extensions)
 
@@ -64,13 +64,13 @@ abbrev pub all_of_table : {A S B C D E F : Type 0} → Doc → AllOf-F A S B C D
 all_of_table items o =
     table_doc all_of_schema
     (doc items
-    (doc (schema_type_doc o.schema_type)
-    (doc (option_of text_of o.title)
-    (doc (option_of text_of o.description)
     (doc (option_of tree_of o.default)
+    (doc (option_of text_of o.description)
+    (doc (option_of discriminator_doc o.discriminator)
     (doc (option_of tree_of o.example)
     (doc (list_of_docs tree_of o.examples)
-    (doc (option_of discriminator_doc o.discriminator) no_docs))))))))
+    (doc (option_of text_of o.title)
+    (doc (schema_type_doc o.schema_type) no_docs))))))))
     (option_map extensions_view o.extensions)
 
 abbrev pub all_of_layer : {A S B C D E F : Type 0} → (S → Doc) → AllOf-F A S B C D E F → Doc
@@ -80,12 +80,12 @@ abbrev pub any_of_table : {A S B C D E F : Type 0} → Doc → AnyOf-F A S B C D
 any_of_table items o =
     table_doc any_of_schema
     (doc items
-    (doc (schema_type_doc o.schema_type)
-    (doc (option_of text_of o.description)
     (doc (option_of tree_of o.default)
+    (doc (option_of text_of o.description)
+    (doc (option_of discriminator_doc o.discriminator)
     (doc (option_of tree_of o.example)
     (doc (list_of_docs tree_of o.examples)
-    (doc (option_of discriminator_doc o.discriminator) no_docs)))))))
+    (doc (schema_type_doc o.schema_type) no_docs)))))))
     (option_map extensions_view o.extensions)
 
 abbrev pub any_of_layer : {A S B C D E F : Type 0} → (S → Doc) → AnyOf-F A S B C D E F → Doc
@@ -95,22 +95,22 @@ any_of_layer f o = any_of_table (places_doc f o.items) o
 abbrev pub array_table : {A S B C D E F : Type 0} → Doc → Doc → Doc → Array-F A S B C D E F → Doc
 array_table items prefix_items content_schema a =
     table_doc array_schema
-    (doc (schema_type_doc a.schema_type)
-    (doc (option_of text_of a.title)
-    (doc items
-    (doc prefix_items
-    (doc (option_of text_of a.description)
-    (doc (option_of deprecated_doc a.deprecated)
-    (doc (option_of tree_of a.example)
-    (doc (list_of_docs tree_of a.examples)
-    (doc (option_of tree_of a.default)
-    (doc (option_of whole_doc a.max_items)
-    (doc (option_of whole_doc a.min_items)
-    (doc (flag_doc a.unique_items)
-    (doc (option_of xml_doc a.xml)
     (doc (text_of a.content_encoding)
     (doc (text_of a.content_media_type)
-    (doc content_schema no_docs))))))))))))))))
+    (doc content_schema
+    (doc (option_of tree_of a.default)
+    (doc (option_of deprecated_doc a.deprecated)
+    (doc (option_of text_of a.description)
+    (doc (option_of tree_of a.example)
+    (doc (list_of_docs tree_of a.examples)
+    (doc items
+    (doc (option_of whole_doc a.max_items)
+    (doc (option_of whole_doc a.min_items)
+    (doc prefix_items
+    (doc (option_of text_of a.title)
+    (doc (schema_type_doc a.schema_type)
+    (doc (flag_doc a.unique_items)
+    (doc (option_of xml_doc a.xml) no_docs))))))))))))))))
     (option_map extensions_view a.extensions)
 
 abbrev pub array_layer : {A S B C D E F : Type 0} → (A → Doc) → (S → Doc) → Array-F A S B C D E F → Doc
@@ -120,35 +120,35 @@ array_layer items f a = array_table (items a.items) (list_of_docs f a.prefix_ite
 abbrev pub object_table : {A S B C D E F : Type 0} → Doc → Doc → Doc → Doc → Object-F A S B C D E F → Doc
 object_table properties additional_properties property_names content_schema o =
     table_doc object_schema
-    (doc (schema_type_doc o.schema_type)
-    (doc (option_of text_of o.title)
-    (doc (option_of schema_format_doc o.format)
-    (doc (option_of text_of o.description)
-    (doc (option_of tree_of o.default)
-    (doc (option_of (list_of_docs tree_of) o.enum_values)
-    (doc (list_of_docs text_of o.required)
-    (doc properties
     (doc additional_properties
-    (doc property_names
-    (doc (option_of deprecated_doc o.deprecated)
-    (doc (option_of tree_of o.example)
-    (doc (list_of_docs tree_of o.examples)
-    (doc (option_of flag_doc o.write_only)
-    (doc (option_of flag_doc o.read_only)
-    (doc (option_of xml_doc o.xml)
-    (doc (option_of number_doc o.multiple_of)
-    (doc (option_of number_doc o.maximum)
-    (doc (option_of number_doc o.minimum)
-    (doc (option_of number_doc o.exclusive_maximum)
-    (doc (option_of number_doc o.exclusive_minimum)
-    (doc (option_of whole_doc o.max_length)
-    (doc (option_of whole_doc o.min_length)
-    (doc (option_of text_of o.pattern)
-    (doc (option_of whole_doc o.max_properties)
-    (doc (option_of whole_doc o.min_properties)
     (doc (text_of o.content_encoding)
     (doc (text_of o.content_media_type)
-    (doc content_schema no_docs)))))))))))))))))))))))))))))
+    (doc content_schema
+    (doc (option_of tree_of o.default)
+    (doc (option_of deprecated_doc o.deprecated)
+    (doc (option_of text_of o.description)
+    (doc (option_of (list_of_docs tree_of) o.enum_values)
+    (doc (option_of tree_of o.example)
+    (doc (list_of_docs tree_of o.examples)
+    (doc (option_of number_doc o.exclusive_maximum)
+    (doc (option_of number_doc o.exclusive_minimum)
+    (doc (option_of schema_format_doc o.format)
+    (doc (option_of whole_doc o.max_length)
+    (doc (option_of whole_doc o.max_properties)
+    (doc (option_of number_doc o.maximum)
+    (doc (option_of whole_doc o.min_length)
+    (doc (option_of whole_doc o.min_properties)
+    (doc (option_of number_doc o.minimum)
+    (doc (option_of number_doc o.multiple_of)
+    (doc (option_of text_of o.pattern)
+    (doc properties
+    (doc property_names
+    (doc (option_of flag_doc o.read_only)
+    (doc (list_of_docs text_of o.required)
+    (doc (option_of text_of o.title)
+    (doc (schema_type_doc o.schema_type)
+    (doc (option_of flag_doc o.write_only)
+    (doc (option_of xml_doc o.xml) no_docs)))))))))))))))))))))))))))))
     (option_map extensions_view o.extensions)
 
 abbrev pub object_layer : {A S B C D E F : Type 0} → (S → Doc) → Object-F A S B C D E F → Doc

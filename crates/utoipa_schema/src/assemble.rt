@@ -16,15 +16,15 @@ ghost use Rattle.utoipa_schema.specs.Docs.{places_doc, additional_properties_doc
 
 use crate::types::{AdditionalProperties, AllOf, AnyOf, Array, ArrayItems, Object, OneOf, Schema};
 use crate::without_schemas::array::{
-    array_annotation_rows, array_head_rows, item_limit_and_representation_rows,
-    read_array_annotations, read_array_head, read_item_limits_and_representation,
+    array_annotation_rows, array_end_rows, item_limit_rows, read_array_annotations, read_array_end,
+    read_item_limits,
 };
 use crate::without_schemas::combination::{combination_rows, read_combination};
+use crate::without_schemas::content::{read_text_content, text_content_rows};
 use crate::without_schemas::from_parts;
 use crate::without_schemas::object::{
-    number_limit_rows, object_annotation_rows, object_head_rows, read_number_limits,
-    read_object_annotations, read_object_head, read_size_limits_and_content,
-    size_limit_and_content_rows,
+    greatest_limit_rows, least_limit_rows, object_annotation_rows, object_end_rows,
+    read_greatest_limits, read_least_limits, read_object_annotations, read_object_end,
 };
 use serde_json::Value;
 use std::alloc::Global;
@@ -63,10 +63,10 @@ pub(crate) fn assemble_one_of(
     ensures kept { IfOk result (λ o. o.items ≡ items) }
 {
     let mut uncounted = Readings::new();
-    let schema_type = row_or_empty(alloc, tree, "type", &mut uncounted)?;
-    let title = row_option(alloc, tree, "title", &mut uncounted)?;
     let combination = read_combination(alloc, tree)?;
     let read_only = row_option(alloc, tree, "readOnly", &mut uncounted)?;
+    let title = row_option(alloc, tree, "title", &mut uncounted)?;
+    let schema_type = row_or_empty(alloc, tree, "type", &mut uncounted)?;
     let write_only = row_option(alloc, tree, "writeOnly", &mut uncounted)?;
     let extensions = read_extensions(alloc, tree)?;
     Ok(combination_rows!(from_parts!(
@@ -86,9 +86,9 @@ pub(crate) fn assemble_all_of(
     ensures kept { IfOk result (λ o. o.items ≡ items) }
 {
     let mut uncounted = Readings::new();
-    let schema_type = row_or_empty(alloc, tree, "type", &mut uncounted)?;
-    let title = row_option(alloc, tree, "title", &mut uncounted)?;
     let combination = read_combination(alloc, tree)?;
+    let title = row_option(alloc, tree, "title", &mut uncounted)?;
+    let schema_type = row_or_empty(alloc, tree, "type", &mut uncounted)?;
     let extensions = read_extensions(alloc, tree)?;
     Ok(combination_rows!(from_parts!(
         AllOf { items, schema_type, title, extensions, } [] combination
@@ -107,8 +107,8 @@ pub(crate) fn assemble_any_of(
     ensures kept { IfOk result (λ o. o.items ≡ items) }
 {
     let mut uncounted = Readings::new();
-    let schema_type = row_or_empty(alloc, tree, "type", &mut uncounted)?;
     let combination = read_combination(alloc, tree)?;
+    let schema_type = row_or_empty(alloc, tree, "type", &mut uncounted)?;
     let extensions = read_extensions(alloc, tree)?;
     Ok(combination_rows!(from_parts!(
         AnyOf { items, schema_type, extensions, } [] combination
@@ -131,13 +131,14 @@ pub(crate) fn assemble_array(
     ensures err { IfErr result (Refuses (read (named array_schema) (view tree.now))) }
     ensures kept { IfOk result (λ a. (a.items ≡ items) × (a.prefix_items ≡ prefix_items) × (a.content_schema ≡ None)) }
 {
-    let head = read_array_head(alloc, tree)?;
+    let content = read_text_content(alloc, tree)?;
     let annotations = read_array_annotations(alloc, tree)?;
-    let limits = read_item_limits_and_representation(alloc, tree)?;
+    let limits = read_item_limits(alloc, tree)?;
+    let last = read_array_end(alloc, tree)?;
     let extensions = read_extensions(alloc, tree)?;
-    Ok(array_head_rows!(from_parts!(
+    Ok(array_end_rows!(from_parts!(
         Array { items, prefix_items, content_schema: None, extensions, }
-        [annotations array_annotation_rows, limits item_limit_and_representation_rows,] head
+        [limits item_limit_rows, annotations array_annotation_rows, content text_content_rows,] last
     )))
 }
 
@@ -162,14 +163,18 @@ pub(crate) fn assemble_object(
     if !tree.is_object() {
         return Err(ReadFault::Kind("Object"));
     }
-    let head = read_object_head(alloc, tree)?;
+    let content = read_text_content(alloc, tree)?;
     let annotations = read_object_annotations(alloc, tree)?;
-    let numbers = read_number_limits(alloc, tree)?;
-    let sizes = read_size_limits_and_content(alloc, tree)?;
+    let greatest = read_greatest_limits(alloc, tree)?;
+    let least = read_least_limits(alloc, tree)?;
+    let last = read_object_end(alloc, tree)?;
     let extensions = read_extensions(alloc, tree)?;
-    Ok(object_head_rows!(from_parts!(
+    Ok(object_end_rows!(from_parts!(
         Object { properties, additional_properties, property_names, content_schema: None, extensions, }
-        [annotations object_annotation_rows, numbers number_limit_rows, sizes size_limit_and_content_rows,] head
+        [
+            least least_limit_rows, greatest greatest_limit_rows, annotations object_annotation_rows,
+            content text_content_rows,
+        ] last
     )))
 }
 

@@ -10,10 +10,9 @@ ghost use Rattle.utoipa_schema.specs.Choice.{content_schema_doc};
 ghost use Rattle.utoipa_schema.specs.Docs.{places_doc, additional_properties_doc, schema_doc, array_items_doc, one_of_doc, all_of_doc, any_of_doc, array_doc, object_doc};
 
 use crate::types::{AdditionalProperties, AllOf, AnyOf, Array, ArrayItems, Object, OneOf, Schema};
-use crate::without_schemas::array::{
-    clone_array_annotations, clone_array_head, clone_item_limits_and_representation,
-};
+use crate::without_schemas::array::{clone_array_annotations, clone_array_end, clone_item_limits};
 use crate::without_schemas::combination::clone_combination;
+use crate::without_schemas::content::clone_text_content;
 use crate::without_schemas::object::{ObjectParts, clone_object_parts};
 use std::alloc::{AllocError, Global};
 use std::collections::BTreeMap;
@@ -346,13 +345,14 @@ fn clone_array_with(
         → content_schema_doc content_schema ≡ content_schema_doc array.now.content_schema
         → array_doc copy ≡ array_doc array.now) }
 {
-    let head = clone_array_head(alloc, array)?;
+    let content = clone_text_content(alloc, &array.content_encoding, &array.content_media_type)?;
     let annotations = clone_array_annotations(alloc, array)?;
-    let limits = clone_item_limits_and_representation(alloc, array)?;
+    let limits = clone_item_limits(alloc, array)?;
+    let last = clone_array_end(alloc, array)?;
     let extensions = clone_extensions(alloc, &array.extensions)?;
     Ok(Array {
-        schema_type: head.schema_type,
-        title: head.title,
+        schema_type: last.schema_type,
+        title: last.title,
         items,
         prefix_items,
         description: annotations.description,
@@ -362,10 +362,10 @@ fn clone_array_with(
         default: annotations.default,
         max_items: limits.max_items,
         min_items: limits.min_items,
-        unique_items: limits.unique_items,
-        xml: limits.xml,
-        content_encoding: limits.content_encoding,
-        content_media_type: limits.content_media_type,
+        unique_items: last.unique_items,
+        xml: last.xml,
+        content_encoding: content.content_encoding,
+        content_media_type: content.content_media_type,
         content_schema,
         extensions,
     })
@@ -397,41 +397,42 @@ fn clone_object_with(
     let (schemas, parts) = beside(schemas, clone_object_parts(alloc, object))?;
     let (properties, additional_properties, property_names, content_schema) = schemas;
     let ObjectParts {
-        head,
+        content,
         annotations,
-        numbers,
-        sizes,
+        greatest,
+        least,
+        last,
         extensions,
     } = parts;
     Ok(Object {
-        schema_type: head.schema_type,
-        title: head.title,
-        format: head.format,
-        description: head.description,
-        default: head.default,
-        enum_values: head.enum_values,
-        required: head.required,
+        schema_type: last.schema_type,
+        title: last.title,
+        format: greatest.format,
+        description: annotations.description,
+        default: annotations.default,
+        enum_values: annotations.enum_values,
+        required: last.required,
         properties,
         additional_properties,
         property_names,
         deprecated: annotations.deprecated,
         example: annotations.example,
         examples: annotations.examples,
-        write_only: annotations.write_only,
-        read_only: annotations.read_only,
-        xml: annotations.xml,
-        multiple_of: numbers.multiple_of,
-        maximum: numbers.maximum,
-        minimum: numbers.minimum,
-        exclusive_maximum: numbers.exclusive_maximum,
-        exclusive_minimum: numbers.exclusive_minimum,
-        max_length: sizes.max_length,
-        min_length: sizes.min_length,
-        pattern: sizes.pattern,
-        max_properties: sizes.max_properties,
-        min_properties: sizes.min_properties,
-        content_encoding: sizes.content_encoding,
-        content_media_type: sizes.content_media_type,
+        write_only: last.write_only,
+        read_only: last.read_only,
+        xml: last.xml,
+        multiple_of: least.multiple_of,
+        maximum: greatest.maximum,
+        minimum: least.minimum,
+        exclusive_maximum: greatest.exclusive_maximum,
+        exclusive_minimum: greatest.exclusive_minimum,
+        max_length: greatest.max_length,
+        min_length: least.min_length,
+        pattern: least.pattern,
+        max_properties: greatest.max_properties,
+        min_properties: least.min_properties,
+        content_encoding: content.content_encoding,
+        content_media_type: content.content_media_type,
         content_schema,
         extensions,
     })

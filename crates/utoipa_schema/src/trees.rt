@@ -4,25 +4,18 @@
 ghost use Rattle.serde_json.specs.View.{view};
 ghost use Rattle.utoipa_base.specs.Reading.{read as read_as};
 ghost use Rattle.utoipa_base.specs.Reads.{Reads};
-ghost use Rattle.utoipa_base.specs.Kinds.{schema, array_items, additional_properties, named, one_of_schema, all_of_schema, any_of_schema, array_schema, object_schema};
 ghost use Rattle.utoipa_base.specs.Values.{values};
-ghost use Rattle.utoipa_schema.specs.Docs.{schema_doc, additional_properties_doc, array_items_doc, one_of_doc, all_of_doc, any_of_doc, array_doc, object_doc};
 ghost use Rattle.utoipa_schema.specs.OfKind.{schema_of_kind, additional_properties_of_kind, array_items_of_kind, one_of_of_kind, all_of_of_kind, any_of_of_kind, array_of_kind, object_of_kind};
 
 use crate::types::{AdditionalProperties, AllOf, AnyOf, Array, ArrayItems, Object, OneOf, Schema};
-use crate::{copy, print, read, write};
-use json::Writer;
+use crate::{copy, read};
 use serde_json::Value;
 use std::alloc::{AllocError, Global};
 use std::collections::BTreeMap;
-use utoipa_base::{Place, ReadFault, Readings, RefOr, Tree};
+use utoipa_base::{Documented, Place, ReadFault, Readings, RefOr, Tree};
 
 /// A schema, by the first alternative that fits (OpenAPI 3.1, section 4.8.24).
 impl Tree for Schema {
-    ghost kind = { schema };
-
-    ghost doc = { schema_doc };
-
     ghost is_of_kind = { schema_of_kind };
 
     fn read_plain(
@@ -31,14 +24,6 @@ impl Tree for Schema {
         readings: &mut Readings,
     ) -> Result<Schema, ReadFault> {
         read::read_schema(alloc, tree, readings)
-    }
-
-    fn to_value(&self, alloc: Global) -> Result<Value, AllocError> {
-        write::write_schema(alloc, self)
-    }
-
-    fn print(&self, alloc: Global, out: &mut Writer) -> Result<(), AllocError> {
-        print::print_schema(alloc, self, out)
     }
 
     fn try_clone(&self, alloc: Global) -> Result<Schema, AllocError> {
@@ -64,10 +49,6 @@ impl Place for Schema {
 
 /// A schema that is no combination and no array, by its member table alone.
 impl Tree for Object {
-    ghost kind = { named object_schema };
-
-    ghost doc = { object_doc };
-
     ghost is_of_kind = { object_of_kind };
 
     fn read_plain(
@@ -78,14 +59,6 @@ impl Tree for Object {
         read::read_object(alloc, tree, readings)
     }
 
-    fn to_value(&self, alloc: Global) -> Result<Value, AllocError> {
-        write::write_object(alloc, self)
-    }
-
-    fn print(&self, alloc: Global, out: &mut Writer) -> Result<(), AllocError> {
-        print::print_object(alloc, self, out)
-    }
-
     fn try_clone(&self, alloc: Global) -> Result<Object, AllocError> {
         copy::clone_object(alloc, self)
     }
@@ -93,10 +66,6 @@ impl Tree for Object {
 
 /// A schema with `items`, by its member table alone.
 impl Tree for Array {
-    ghost kind = { named array_schema };
-
-    ghost doc = { array_doc };
-
     ghost is_of_kind = { array_of_kind };
 
     fn read_plain(
@@ -107,14 +76,6 @@ impl Tree for Array {
         read::read_array(alloc, tree, readings)
     }
 
-    fn to_value(&self, alloc: Global) -> Result<Value, AllocError> {
-        write::write_array(alloc, self)
-    }
-
-    fn print(&self, alloc: Global, out: &mut Writer) -> Result<(), AllocError> {
-        print::print_array(alloc, self, out)
-    }
-
     fn try_clone(&self, alloc: Global) -> Result<Array, AllocError> {
         copy::clone_array(alloc, self)
     }
@@ -122,10 +83,6 @@ impl Tree for Array {
 
 /// A schema with `oneOf`, by its member table alone.
 impl Tree for OneOf {
-    ghost kind = { named one_of_schema };
-
-    ghost doc = { one_of_doc };
-
     ghost is_of_kind = { one_of_of_kind };
 
     fn read_plain(
@@ -136,14 +93,6 @@ impl Tree for OneOf {
         read::read_one_of(alloc, tree, readings)
     }
 
-    fn to_value(&self, alloc: Global) -> Result<Value, AllocError> {
-        write::write_one_of(alloc, self)
-    }
-
-    fn print(&self, alloc: Global, out: &mut Writer) -> Result<(), AllocError> {
-        print::print_one_of(alloc, self, out)
-    }
-
     fn try_clone(&self, alloc: Global) -> Result<OneOf, AllocError> {
         copy::clone_one_of(alloc, self)
     }
@@ -151,10 +100,6 @@ impl Tree for OneOf {
 
 /// A schema with `allOf`, by its member table alone.
 impl Tree for AllOf {
-    ghost kind = { named all_of_schema };
-
-    ghost doc = { all_of_doc };
-
     ghost is_of_kind = { all_of_of_kind };
 
     fn read_plain(
@@ -165,14 +110,6 @@ impl Tree for AllOf {
         read::read_all_of(alloc, tree, readings)
     }
 
-    fn to_value(&self, alloc: Global) -> Result<Value, AllocError> {
-        write::write_all_of(alloc, self)
-    }
-
-    fn print(&self, alloc: Global, out: &mut Writer) -> Result<(), AllocError> {
-        print::print_all_of(alloc, self, out)
-    }
-
     fn try_clone(&self, alloc: Global) -> Result<AllOf, AllocError> {
         copy::clone_all_of(alloc, self)
     }
@@ -180,10 +117,6 @@ impl Tree for AllOf {
 
 /// A schema with `anyOf`, by its member table alone.
 impl Tree for AnyOf {
-    ghost kind = { named any_of_schema };
-
-    ghost doc = { any_of_doc };
-
     ghost is_of_kind = { any_of_of_kind };
 
     fn read_plain(
@@ -194,14 +127,6 @@ impl Tree for AnyOf {
         read::read_any_of(alloc, tree, readings)
     }
 
-    fn to_value(&self, alloc: Global) -> Result<Value, AllocError> {
-        write::write_any_of(alloc, self)
-    }
-
-    fn print(&self, alloc: Global, out: &mut Writer) -> Result<(), AllocError> {
-        print::print_any_of(alloc, self, out)
-    }
-
     fn try_clone(&self, alloc: Global) -> Result<AnyOf, AllocError> {
         copy::clone_any_of(alloc, self)
     }
@@ -209,10 +134,6 @@ impl Tree for AnyOf {
 
 /// The items of an array: a reference, a schema, or `false`.
 impl Tree for ArrayItems {
-    ghost kind = { array_items };
-
-    ghost doc = { array_items_doc };
-
     ghost is_of_kind = { array_items_of_kind };
 
     fn read_plain(
@@ -223,14 +144,6 @@ impl Tree for ArrayItems {
         read::read_items(alloc, tree, readings)
     }
 
-    fn to_value(&self, alloc: Global) -> Result<Value, AllocError> {
-        write::write_items(alloc, self)
-    }
-
-    fn print(&self, alloc: Global, out: &mut Writer) -> Result<(), AllocError> {
-        print::print_items(alloc, self, out)
-    }
-
     fn try_clone(&self, alloc: Global) -> Result<ArrayItems, AllocError> {
         copy::clone_items(alloc, self)
     }
@@ -238,10 +151,6 @@ impl Tree for ArrayItems {
 
 /// What the properties are that an object does not list: a reference, a schema, true or false.
 impl Tree for AdditionalProperties<Schema> {
-    ghost kind = { additional_properties };
-
-    ghost doc = { additional_properties_doc schema_doc };
-
     ghost is_of_kind = { additional_properties_of_kind };
 
     fn read_plain(
@@ -250,14 +159,6 @@ impl Tree for AdditionalProperties<Schema> {
         readings: &mut Readings,
     ) -> Result<AdditionalProperties<Schema>, ReadFault> {
         read::read_additional(alloc, tree, readings)
-    }
-
-    fn to_value(&self, alloc: Global) -> Result<Value, AllocError> {
-        write::write_additional(alloc, self)
-    }
-
-    fn print(&self, alloc: Global, out: &mut Writer) -> Result<(), AllocError> {
-        print::print_additional(alloc, self, out)
     }
 
     fn try_clone(&self, alloc: Global) -> Result<AdditionalProperties<Schema>, AllocError> {
@@ -273,7 +174,7 @@ pub fn read_ref_or_schema(
     tree: &Value,
     readings: &mut Readings,
 ) -> Result<RefOr<Schema>, ReadFault>
-    ensures { Reads (read_as ⟦<RefOr<Schema> as Tree>⟧.kind (view tree.now)) ⟦<RefOr<Schema> as Tree>⟧.doc result
+    ensures { Reads (read_as ⟦<RefOr<Schema> as Documented>⟧.kind (view tree.now)) ⟦<RefOr<Schema> as Documented>⟧.doc result
         readings.old readings.new (values (view tree.now)) }
 {
     read::read_ref_or_schema(alloc, tree, readings)
@@ -287,7 +188,7 @@ pub fn read_schema_list(
     tree: &Value,
     readings: &mut Readings,
 ) -> Result<Vec<RefOr<Schema>>, ReadFault>
-    ensures { Reads (read_as ⟦<Vec<RefOr<Schema>> as Tree>⟧.kind (view tree.now)) ⟦<Vec<RefOr<Schema>> as Tree>⟧.doc result
+    ensures { Reads (read_as ⟦<Vec<RefOr<Schema>> as Documented>⟧.kind (view tree.now)) ⟦<Vec<RefOr<Schema>> as Documented>⟧.doc result
         readings.old readings.new (values (view tree.now)) }
 {
     read::read_ref_or_schema_list(alloc, tree, readings)
@@ -301,7 +202,7 @@ pub fn read_schema_map(
     tree: &Value,
     readings: &mut Readings,
 ) -> Result<BTreeMap<String, RefOr<Schema>>, ReadFault>
-    ensures { Reads (read_as ⟦<BTreeMap<String, RefOr<Schema>> as Tree>⟧.kind (view tree.now)) ⟦<BTreeMap<String, RefOr<Schema>> as Tree>⟧.doc result
+    ensures { Reads (read_as ⟦<BTreeMap<String, RefOr<Schema>> as Documented>⟧.kind (view tree.now)) ⟦<BTreeMap<String, RefOr<Schema>> as Documented>⟧.doc result
         readings.old readings.new (values (view tree.now)) }
 {
     read::read_ref_or_schema_map(alloc, tree, readings)

@@ -1,6 +1,6 @@
-//! The members of schemas that hold no schema, in parts that are read, written and copied one by one.
+//! The members of schemas that hold no schema, in parts that are read and copied one by one.
 //!
-//! The rows of a part stand in a macro beside it, in the order of the member table.
+//! The rows of a part stand in a macro beside it, in the order of the members' names. They are sent by it too (`emit.rt`).
 ghost use Rattle.std.specs.Prelude.{◌≡◌, length, Some, IfOk, IfErr};
 ghost use Rattle.serde_json.specs.View.{view};
 ghost use Rattle.utoipa_base.specs.Docs.{list_doc};
@@ -9,6 +9,7 @@ ghost use Rattle.utoipa_base.specs.Rows.{part, texts};
 
 pub(crate) mod array;
 pub(crate) mod combination;
+pub(crate) mod content;
 pub(crate) mod object;
 
 use serde_json::Value;
@@ -27,25 +28,6 @@ macro_rules! from_parts {
 }
 
 pub(crate) use from_parts;
-
-// Writes the member of a row.
-macro_rules! write_row {
-    (required, $members:expr, $alloc:expr, $name:literal, $value:expr) => { write_required($members, $alloc, $name, $value) };
-    (optional, $members:expr, $alloc:expr, $name:literal, $value:expr) => { write_option($members, $alloc, $name, $value) };
-    (defaulted, $members:expr, $alloc:expr, $name:literal, $value:expr) => { write_unless_empty($members, $alloc, $name, $value) };
-}
-
-pub(crate) use write_row;
-
-// Writes the rows of a part among other members, one by one: a tuple of what is borrowed for each row takes longer to check.
-macro_rules! write_each {
-    ($members:expr, $alloc:expr, $value:expr; $($mark:ident $name:literal $field:ident,)*) => {{
-        $(write_row!($mark, $members, $alloc, $name, &$value.$field)?;)*
-        Ok(())
-    }};
-}
-
-pub(crate) use write_each;
 
 /// The fields of a part's rows, by the rows' names. Fails at the first row that does not fit. A part holds no schema, so
 /// none is counted.

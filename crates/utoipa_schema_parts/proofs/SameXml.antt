@@ -48,21 +48,21 @@ same_last r d e last = (λ h. ap (λ x. doc x no_docs) (last.0 h), λ h. last.1 
 -- the fields of two XML objects, as a derived `==` compares them
 abbrev pub equal_fields : Xml → Xml → Bool
 equal_fields x y =
-    option_eq string_eq x.name y.name
+    option_eq beq x.attribute y.attribute
+    && (option_eq string_eq x.name y.name
     && (option_eq string_eq x.namespace y.namespace
-    && (option_eq string_eq x.prefix y.prefix
     && (option_eq string_eq x.node_type y.node_type
-    && (option_eq beq x.attribute y.attribute && option_eq beq x.wrapped y.wrapped))))
+    && (option_eq string_eq x.prefix y.prefix && option_eq beq x.wrapped y.wrapped))))
 
 pub same_xml : (x y : Xml) → Decides (equal_fields x y) (xml_doc x ≡ xml_doc y)
 same_xml x y =
     let text : (a b : Option (String Global)) → Decides (option_eq string_eq a b) (option_of text_of a ≡ option_of text_of b) = same_option string_eq text_of same_text in
     let flag : (a b : Option Bool) → Decides (option_eq beq a b) (option_of flag_doc a ≡ option_of flag_doc b) = same_option beq flag_doc same_flag in
     let rows =
-    same_more _ _ _ _ _ _ (text x.name y.name)
+    same_more _ _ _ _ _ _ (flag x.attribute y.attribute)
+    (same_more _ _ _ _ _ _ (text x.name y.name)
     (same_more _ _ _ _ _ _ (text x.namespace y.namespace)
-    (same_more _ _ _ _ _ _ (text x.prefix y.prefix)
     (same_more _ _ _ _ _ _ (text x.node_type y.node_type)
-    (same_more _ _ _ _ _ _ (flag x.attribute y.attribute)
+    (same_more _ _ _ _ _ _ (text x.prefix y.prefix)
     (same_last _ _ _ (flag x.wrapped y.wrapped)))))) in
     (λ e. ap (λ ds. table_doc xml_object ds None) (rows.0 e), λ e. rows.1 cc)

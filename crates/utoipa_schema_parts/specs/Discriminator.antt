@@ -23,14 +23,14 @@ put_mapping (p ∷ ps) es = put_mapping ps (insert_entry string_cmp es p.0 p.1)
 abbrev pub discriminator_doc : Discriminator → Doc
 discriminator_doc d =
     table_doc discriminator_object
-    (doc (text_of d.property_name)
-    (doc (map_of_docs text_of d.mapping) no_docs))
+    (doc (map_of_docs text_of d.mapping)
+    (doc (text_of d.property_name) no_docs))
     (option_map extensions_view d.extensions)
 
 -- a discriminator is an object of its type
 pub discriminator_of_kind : (d : Discriminator) → IsOf (discriminator_doc d) (value_of (named discriminator_object))
 discriminator_of_kind d =
     table_of_kind _ _
-    (next_row (text_of_kind d.property_name)
-    (next_row (map_of_kind text_of text text_of_kind d.mapping) no_rows))
+    (next_row (map_of_kind text_of text text_of_kind d.mapping)
+    (next_row (text_of_kind d.property_name) no_rows))
     (extends_of_kind (option_map extensions_view d.extensions))

@@ -20,11 +20,11 @@ built_xml b = b.xml
 abbrev pub xml_doc : Xml → Doc
 xml_doc x =
     table_doc xml_object
+    (doc (option_of flag_doc x.attribute)
     (doc (option_of text_of x.name)
     (doc (option_of text_of x.namespace)
-    (doc (option_of text_of x.prefix)
     (doc (option_of text_of x.node_type)
-    (doc (option_of flag_doc x.attribute)
+    (doc (option_of text_of x.prefix)
     (doc (option_of flag_doc x.wrapped) no_docs))))))
     None
 
@@ -32,10 +32,10 @@ xml_doc x =
 pub xml_of_kind : (x : Xml) → IsOf (xml_doc x) (value_of (named xml_object))
 xml_of_kind x =
     table_of_kind _ _
+    (next_row (option_of_kind flag_doc flag flag_of_kind x.attribute)
     (next_row (option_of_kind text_of text text_of_kind x.name)
     (next_row (option_of_kind text_of text text_of_kind x.namespace)
-    (next_row (option_of_kind text_of text text_of_kind x.prefix)
     (next_row (option_of_kind text_of text text_of_kind x.node_type)
-    (next_row (option_of_kind flag_doc flag flag_of_kind x.attribute)
+    (next_row (option_of_kind text_of text text_of_kind x.prefix)
     (next_row (option_of_kind flag_doc flag flag_of_kind x.wrapped) no_rows))))))
     tt

@@ -1,30 +1,18 @@
 //! Discriminators between schemas.
-ghost use Rattle.std.specs.Prelude.{◌≡◌, [], None, refl, false, IfOk};
+ghost use Rattle.std.specs.Prelude.{◌≡◌, [], None, IfOk};
 ghost use Rattle.std.specs.Iterator.{IsFinite, Drains};
 ghost use Rattle.utoipa_base.specs.Kinds.{named, discriminator_object};
 
-use json::Writer;
 use serde_json::Value;
 use std::alloc::{AllocError, Global};
 use std::collections::BTreeMap;
 use utoipa_base::{
-    Extensions, ReadFault, Readings, Tree, clone_table, from_fields, print_table, read_table,
-    row_names, row_values, write_table,
+    Documented, Emit, Extensions, JsonSink, ReadFault, Readings, Tree, clone_table, emit_table,
+    from_fields, read_table, row_names, row_values,
 };
 
-// The rows of a discriminator, in the order of its member table: mark, member, field.
+// The rows of a discriminator, in the order of the members' names: mark, member, field.
 macro_rules! discriminator_rows {
-    ($lines:ident!($($arguments:tt)*)) => {
-        $lines! {
-            $($arguments)*;
-            required "propertyName" property_name,
-            defaulted "mapping" mapping,
-        }
-    };
-}
-
-// The same, in the order of the members' names.
-macro_rules! discriminator_rows_by_name {
     ($lines:ident!($($arguments:tt)*)) => {
         $lines! {
             $($arguments)*;
@@ -84,12 +72,24 @@ impl Discriminator {
     }
 }
 
-impl Tree for Discriminator {
-    ghost use Rattle.utoipa_schema_parts.specs.Discriminator.{discriminator_doc, discriminator_of_kind};
+impl Documented for Discriminator {
+    ghost use Rattle.utoipa_schema_parts.specs.Discriminator.{discriminator_doc};
 
     ghost kind = { named discriminator_object };
 
     ghost doc = { discriminator_doc };
+}
+
+impl Emit for Discriminator {
+    fn emit<S: JsonSink>(&self, out: &mut S) -> Result<(), AllocError> {
+        let names = discriminator_rows!(row_names!());
+        let values = discriminator_rows!(row_values!(self));
+        emit_table(out, names, &values, &self.extensions)
+    }
+}
+
+impl Tree for Discriminator {
+    ghost use Rattle.utoipa_schema_parts.specs.Discriminator.{discriminator_of_kind};
 
     ghost is_of_kind = { discriminator_of_kind };
 
@@ -101,18 +101,6 @@ impl Tree for Discriminator {
         let names = discriminator_rows!(row_names!());
         let (fields, extensions) = read_table(alloc, tree, "Discriminator", names, readings)?;
         Ok(discriminator_rows!(from_fields!(Discriminator, fields, extensions)))
-    }
-
-    fn to_value(&self, alloc: Global) -> Result<Value, AllocError> {
-        let names = discriminator_rows!(row_names!());
-        let values = discriminator_rows!(row_values!(self));
-        write_table(alloc, names, &values, &self.extensions)
-    }
-
-    fn print(&self, alloc: Global, out: &mut Writer) -> Result<(), AllocError> {
-        let names = discriminator_rows_by_name!(row_names!());
-        let values = discriminator_rows_by_name!(row_values!(self));
-        print_table(alloc, out, names, &values, &self.extensions)
     }
 
     fn try_clone(&self, alloc: Global) -> Result<Discriminator, AllocError> {

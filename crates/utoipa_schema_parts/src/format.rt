@@ -7,10 +7,11 @@ ghost use Rattle.utoipa_base.specs.Kinds.{word_of, known_format, schema_format};
 ghost use Rattle.utoipa_base.specs.Reading.{read};
 ghost use Rattle.utoipa_schema_parts.specs.Format.{schema_format_doc, schema_format_of_kind};
 
-use json::Writer;
 use serde_json::Value;
 use std::alloc::{AllocError, Global};
-use utoipa_base::{ReadFault, Readings, Tree, Word, print_word, read_word, write_word};
+use utoipa_base::{
+    Documented, Emit, JsonSink, ReadFault, Readings, Tree, Word, emit_word, read_word,
+};
 
 /// A format that the model knows: a word of the keyword `format` (OpenAPI 3.1, section 4.4; JSON Schema 2020-12,
 /// Validation, section 7.3; `byte` and `binary` of OpenAPI 3.0).
@@ -127,13 +128,24 @@ impl Word for KnownFormat {
     }
 }
 
-#[tactic(auto, using(utoipa_base::proofs::ByWords::by_words))]
-impl Tree for KnownFormat {
-    ghost use Rattle.utoipa_schema_parts.specs.Format.{known_format_doc, known_format_of_kind};
+impl Documented for KnownFormat {
+    ghost use Rattle.utoipa_schema_parts.specs.Format.{known_format_doc};
 
     ghost kind = { word_of known_format };
 
     ghost doc = { known_format_doc };
+}
+
+#[tactic(auto, using(utoipa_base::proofs::ByWords::by_words))]
+impl Emit for KnownFormat {
+    fn emit<S: JsonSink>(&self, out: &mut S) -> Result<(), AllocError> {
+        emit_word(out, self)
+    }
+}
+
+#[tactic(auto, using(utoipa_base::proofs::ByWords::by_words))]
+impl Tree for KnownFormat {
+    ghost use Rattle.utoipa_schema_parts.specs.Format.{known_format_of_kind};
 
     ghost is_of_kind = { known_format_of_kind };
 
@@ -143,14 +155,6 @@ impl Tree for KnownFormat {
         _readings: &mut Readings,
     ) -> Result<KnownFormat, ReadFault> {
         read_word(tree, "KnownFormat")
-    }
-
-    fn to_value(&self, alloc: Global) -> Result<Value, AllocError> {
-        write_word(alloc, self)
-    }
-
-    fn print(&self, _alloc: Global, out: &mut Writer) -> Result<(), AllocError> {
-        print_word(out, self)
     }
 
     fn try_clone(&self, _alloc: Global) -> Result<KnownFormat, AllocError> {
@@ -185,13 +189,26 @@ fn read_format(alloc: Global, tree: &Value, name: &'static str) -> Result<Schema
     }
 }
 
-/// A text.
-#[tactic(auto, using(crate::proofs::ReadFormats::by_formats, crate::proofs::Counts::schema_format_counts_none))]
-impl Tree for SchemaFormat {
+impl Documented for SchemaFormat {
     ghost kind = { schema_format };
 
     ghost doc = { schema_format_doc };
+}
 
+/// A text.
+#[tactic(auto, using(utoipa_base::proofs::Sending::by_sending))]
+impl Emit for SchemaFormat {
+    fn emit<S: JsonSink>(&self, out: &mut S) -> Result<(), AllocError> {
+        match self {
+            SchemaFormat::KnownFormat(known) => known.emit(out),
+            SchemaFormat::Custom(name) => out.string(name.as_str()),
+        }
+    }
+}
+
+/// A text.
+#[tactic(auto, using(crate::proofs::ReadFormats::by_formats, crate::proofs::Counts::schema_format_counts_none))]
+impl Tree for SchemaFormat {
     ghost is_of_kind = { schema_format_of_kind };
 
     fn read_plain(
@@ -200,20 +217,6 @@ impl Tree for SchemaFormat {
         _readings: &mut Readings,
     ) -> Result<SchemaFormat, ReadFault> {
         read_format(alloc, tree, "SchemaFormat")
-    }
-
-    fn to_value(&self, alloc: Global) -> Result<Value, AllocError> {
-        match self {
-            SchemaFormat::KnownFormat(known) => known.to_value(alloc),
-            SchemaFormat::Custom(name) => Value::try_from_str(alloc, name.as_str()),
-        }
-    }
-
-    fn print(&self, alloc: Global, out: &mut Writer) -> Result<(), AllocError> {
-        match self {
-            SchemaFormat::KnownFormat(known) => known.print(alloc, out),
-            SchemaFormat::Custom(name) => out.string(name.as_str()),
-        }
     }
 
     fn try_clone(&self, alloc: Global) -> Result<SchemaFormat, AllocError> {

@@ -7,14 +7,14 @@ ghost use Rattle.utoipa_base.specs.Faults.{Refuses};
 ghost use Rattle.utoipa_base.specs.Kinds.{word_of, type_word, schema_type};
 ghost use Rattle.utoipa_base.specs.Lists.{IsFilledFrom};
 ghost use Rattle.utoipa_base.specs.Reading.{read};
-ghost use Rattle.utoipa_base.specs.Values.{values, schema_count};
+ghost use Rattle.utoipa_base.specs.Values.{values};
 ghost use Rattle.utoipa_schema_parts.specs.Types.{TypeWords, schema_type_doc, schema_type_of_kind};
 
-use json::Writer;
 use serde_json::Value;
 use std::alloc::{AllocError, Global};
 use utoipa_base::{
-    Empty, ReadFault, Readings, Tree, Word, list_from, print_word, read_word, write_word,
+    Documented, Emit, Empty, JsonSink, Omit, ReadFault, Readings, Tree, Word, emit_word, list_from,
+    read_word,
 };
 
 /// A type of JSON values: a word of the keyword `type` (JSON Schema 2020-12, Validation, section 6.1.1).
@@ -76,13 +76,24 @@ impl Word for TypeWord {
     }
 }
 
-#[tactic(auto, using(utoipa_base::proofs::ByWords::by_words))]
-impl Tree for TypeWord {
-    ghost use Rattle.utoipa_schema_parts.specs.Types.{type_word_doc, type_word_of_kind};
+impl Documented for TypeWord {
+    ghost use Rattle.utoipa_schema_parts.specs.Types.{type_word_doc};
 
     ghost kind = { word_of type_word };
 
     ghost doc = { type_word_doc };
+}
+
+#[tactic(auto, using(utoipa_base::proofs::ByWords::by_words))]
+impl Emit for TypeWord {
+    fn emit<S: JsonSink>(&self, out: &mut S) -> Result<(), AllocError> {
+        emit_word(out, self)
+    }
+}
+
+#[tactic(auto, using(utoipa_base::proofs::ByWords::by_words))]
+impl Tree for TypeWord {
+    ghost use Rattle.utoipa_schema_parts.specs.Types.{type_word_of_kind};
 
     ghost is_of_kind = { type_word_of_kind };
 
@@ -92,14 +103,6 @@ impl Tree for TypeWord {
         _readings: &mut Readings,
     ) -> Result<TypeWord, ReadFault> {
         read_word(tree, "TypeWord")
-    }
-
-    fn to_value(&self, alloc: Global) -> Result<Value, AllocError> {
-        write_word(alloc, self)
-    }
-
-    fn print(&self, _alloc: Global, out: &mut Writer) -> Result<(), AllocError> {
-        print_word(out, self)
     }
 
     fn try_clone(&self, _alloc: Global) -> Result<TypeWord, AllocError> {
@@ -206,13 +209,27 @@ fn read_types(
     Ok(SchemaType::Single(read_word(tree, name)?))
 }
 
-/// A word, a list of words, or null.
-#[tactic(auto, using(crate::proofs::ReadTypes::by_types, crate::proofs::Counts::schema_type_counts_none))]
-impl Tree for SchemaType {
+impl Documented for SchemaType {
     ghost kind = { schema_type };
 
     ghost doc = { schema_type_doc };
+}
 
+/// A word, a list of words, or null.
+#[tactic(auto, using(crate::proofs::ReadTypes::by_types))]
+impl Emit for SchemaType {
+    fn emit<S: JsonSink>(&self, out: &mut S) -> Result<(), AllocError> {
+        match self {
+            SchemaType::Single(word) => word.emit(out),
+            SchemaType::Array(words) => words.emit(out),
+            SchemaType::AnyValue => out.null(),
+        }
+    }
+}
+
+/// A word, a list of words, or null.
+#[tactic(auto, using(crate::proofs::ReadTypes::by_types, crate::proofs::Counts::schema_type_counts_none))]
+impl Tree for SchemaType {
     ghost is_of_kind = { schema_type_of_kind };
 
     fn read_plain(
@@ -221,22 +238,6 @@ impl Tree for SchemaType {
         readings: &mut Readings,
     ) -> Result<SchemaType, ReadFault> {
         read_types(alloc, tree, "SchemaType", readings)
-    }
-
-    fn to_value(&self, alloc: Global) -> Result<Value, AllocError> {
-        match self {
-            SchemaType::Single(word) => word.to_value(alloc),
-            SchemaType::Array(words) => words.to_value(alloc),
-            SchemaType::AnyValue => Ok(Value::Null),
-        }
-    }
-
-    fn print(&self, alloc: Global, out: &mut Writer) -> Result<(), AllocError> {
-        match self {
-            SchemaType::Single(word) => word.print(alloc, out),
-            SchemaType::Array(words) => words.print(alloc, out),
-            SchemaType::AnyValue => out.null(),
-        }
     }
 
     fn try_clone(&self, alloc: Global) -> Result<SchemaType, AllocError> {
@@ -253,9 +254,12 @@ impl Empty for SchemaType {
     fn empty(_alloc: Global) -> SchemaType {
         SchemaType::any()
     }
+}
 
+/// Any value.
+impl Omit for SchemaType {
     #[tactic(auto, using(crate::proofs::ReadTypes::left_out_if))]
-    fn is_left_out(&self) -> bool {
+    fn is_omitted(&self) -> bool {
         self.is_any_value()
     }
 }

@@ -1,33 +1,17 @@
-ghost use Rattle.std.specs.Prelude.{◌≡◌, ◌↔◌, refl, false, IsTrue};
+ghost use Rattle.std.specs.Prelude.{◌≡◌, ◌↔◌, IsTrue};
 ghost use Rattle.utoipa_base.specs.Kinds.{named, xml_object};
 ghost use Rattle.utoipa_schema_parts.specs.Xml.{xml_doc};
 ghost use Rattle.utoipa_schema_parts.specs.contracts.xml.XmlPartialEq.TheImpl as derived;
 
-use json::Writer;
 use serde_json::Value;
 use std::alloc::{AllocError, Global};
 use utoipa_base::{
-    ReadFault, Readings, Tree, clone_table_alone, from_fields_alone, print_table, read_table_alone,
-    row_names, row_values, write_table_alone,
+    Documented, Emit, JsonSink, ReadFault, Readings, Tree, clone_table_alone, emit_table,
+    from_fields_alone, read_table_alone, row_names, row_values,
 };
 
-// The rows of an XML object, in the order of its member table: mark, member, field.
+// The rows of an XML object, in the order of the members' names: mark, member, field.
 macro_rules! xml_rows {
-    ($lines:ident!($($arguments:tt)*)) => {
-        $lines! {
-            $($arguments)*;
-            optional "name" name,
-            optional "namespace" namespace,
-            optional "prefix" prefix,
-            optional "nodeType" node_type,
-            optional "attribute" attribute,
-            optional "wrapped" wrapped,
-        }
-    };
-}
-
-// The same, in the order of the members' names.
-macro_rules! xml_rows_by_name {
     ($lines:ident!($($arguments:tt)*)) => {
         $lines! {
             $($arguments)*;
@@ -44,16 +28,16 @@ macro_rules! xml_rows_by_name {
 /// An XML Object (OpenAPI 3.1, section 4.8.26): how a property is written in XML.
 #[derive(Debug, Drop, Eq, PartialEq)]
 pub struct Xml {
+    /// Whether the property is written as an attribute, in place of an element.
+    pub attribute: Option<bool>,
     /// The name of the element or the attribute, in place of the property's name.
     pub name: Option<String>,
     /// An IRI of the namespace.
     pub namespace: Option<String>,
-    /// The prefix of the name.
-    pub prefix: Option<String>,
     /// The kind of XML node that the property is written as, from OpenAPI 3.2 on: the member `nodeType`.
     pub node_type: Option<String>,
-    /// Whether the property is written as an attribute, in place of an element.
-    pub attribute: Option<bool>,
+    /// The prefix of the name.
+    pub prefix: Option<String>,
     /// Whether the items of an array stand in an element of their own.
     pub wrapped: Option<bool>,
 }
@@ -66,11 +50,11 @@ impl Xml {
         ensures { result ≡ empty_xml }
     {
         Xml {
+            attribute: None,
             name: None,
             namespace: None,
-            prefix: None,
             node_type: None,
-            attribute: None,
+            prefix: None,
             wrapped: None,
         }
     }
@@ -83,12 +67,24 @@ impl Xml {
     }
 }
 
-impl Tree for Xml {
-    ghost use Rattle.utoipa_schema_parts.specs.Xml.{xml_doc, xml_of_kind};
+impl Documented for Xml {
+    ghost use Rattle.utoipa_schema_parts.specs.Xml.{xml_doc};
 
     ghost kind = { named xml_object };
 
     ghost doc = { xml_doc };
+}
+
+impl Emit for Xml {
+    fn emit<S: JsonSink>(&self, out: &mut S) -> Result<(), AllocError> {
+        let names = xml_rows!(row_names!());
+        let values = xml_rows!(row_values!(self));
+        emit_table(out, names, &values, &None)
+    }
+}
+
+impl Tree for Xml {
+    ghost use Rattle.utoipa_schema_parts.specs.Xml.{xml_of_kind};
 
     ghost is_of_kind = { xml_of_kind };
 
@@ -96,18 +92,6 @@ impl Tree for Xml {
         let names = xml_rows!(row_names!());
         let fields = read_table_alone(alloc, tree, "Xml", names, readings)?;
         Ok(xml_rows!(from_fields_alone!(Xml, fields)))
-    }
-
-    fn to_value(&self, alloc: Global) -> Result<Value, AllocError> {
-        let names = xml_rows!(row_names!());
-        let values = xml_rows!(row_values!(self));
-        write_table_alone(alloc, names, &values)
-    }
-
-    fn print(&self, alloc: Global, out: &mut Writer) -> Result<(), AllocError> {
-        let names = xml_rows_by_name!(row_names!());
-        let values = xml_rows_by_name!(row_values!(self));
-        print_table(alloc, out, names, &values, &None)
     }
 
     fn try_clone(&self, alloc: Global) -> Result<Xml, AllocError> {

@@ -23,18 +23,18 @@ made_api_key name description = record { name = name; description = description;
 abbrev pub api_key_value_doc : ApiKeyValue → Doc
 api_key_value_doc s =
     table_doc api_key_scheme
-    (doc (text_of s.name)
+    (doc (option_of deprecated_doc s.deprecated)
     (doc (option_of text_of s.description)
-    (doc (option_of deprecated_doc s.deprecated) no_docs)))
+    (doc (text_of s.name) no_docs)))
     (option_map extensions_view s.extensions)
 
 -- an API key is an object of its type
 pub api_key_value_of_kind : (s : ApiKeyValue) → IsOf (api_key_value_doc s) (value_of (named api_key_scheme))
 api_key_value_of_kind s =
     table_of_kind _ _
-    (next_row (text_of_kind s.name)
+    (next_row (option_of_kind deprecated_doc flag deprecated_of_kind s.deprecated)
     (next_row (option_of_kind text_of text text_of_kind s.description)
-    (next_row (option_of_kind deprecated_doc flag deprecated_of_kind s.deprecated) no_rows)))
+    (next_row (text_of_kind s.name) no_rows)))
     (extends_of_kind (option_map extensions_view s.extensions))
 
 -- ---- an API key in its place

@@ -49,18 +49,18 @@ made_password token_url refresh_url scopes = record { token_url = token_url; ref
 abbrev pub password_doc : Password → Doc
 password_doc f =
     table_doc password_flow
-    (doc (text_of f.token_url)
     (doc (option_of text_of f.refresh_url)
-    (doc (scopes_member f.scopes) no_docs)))
+    (doc (scopes_member f.scopes)
+    (doc (text_of f.token_url) no_docs)))
     (option_map extensions_view f.extensions)
 
 -- the flow's members are an object of their type
 pub password_of_kind : (f : Password) → IsOf (password_doc f) (value_of (named password_flow))
 password_of_kind f =
     table_of_kind _ _
-    (next_row (text_of_kind f.token_url)
     (next_row (option_of_kind text_of text text_of_kind f.refresh_url)
-    (next_row (scopes_member_of_kind f.scopes) no_rows)))
+    (next_row (scopes_member_of_kind f.scopes)
+    (next_row (text_of_kind f.token_url) no_rows)))
     (extends_of_kind (option_map extensions_view f.extensions))
 
 -- ---- the flow by the credentials of the client
@@ -73,18 +73,18 @@ made_client_credentials token_url refresh_url scopes = record { token_url = toke
 abbrev pub client_credentials_doc : ClientCredentials → Doc
 client_credentials_doc f =
     table_doc client_credentials_flow
-    (doc (text_of f.token_url)
     (doc (option_of text_of f.refresh_url)
-    (doc (scopes_member f.scopes) no_docs)))
+    (doc (scopes_member f.scopes)
+    (doc (text_of f.token_url) no_docs)))
     (option_map extensions_view f.extensions)
 
 -- the flow's members are an object of their type
 pub client_credentials_of_kind : (f : ClientCredentials) → IsOf (client_credentials_doc f) (value_of (named client_credentials_flow))
 client_credentials_of_kind f =
     table_of_kind _ _
-    (next_row (text_of_kind f.token_url)
     (next_row (option_of_kind text_of text text_of_kind f.refresh_url)
-    (next_row (scopes_member_of_kind f.scopes) no_rows)))
+    (next_row (scopes_member_of_kind f.scopes)
+    (next_row (text_of_kind f.token_url) no_rows)))
     (extends_of_kind (option_map extensions_view f.extensions))
 
 -- ---- the flow by an authorization code
@@ -98,9 +98,9 @@ abbrev pub authorization_code_doc : AuthorizationCode → Doc
 authorization_code_doc f =
     table_doc authorization_code_flow
     (doc (text_of f.authorization_url)
-    (doc (text_of f.token_url)
     (doc (option_of text_of f.refresh_url)
-    (doc (scopes_member f.scopes) no_docs))))
+    (doc (scopes_member f.scopes)
+    (doc (text_of f.token_url) no_docs))))
     (option_map extensions_view f.extensions)
 
 -- the flow's members are an object of their type
@@ -108,9 +108,9 @@ pub authorization_code_of_kind : (f : AuthorizationCode) → IsOf (authorization
 authorization_code_of_kind f =
     table_of_kind _ _
     (next_row (text_of_kind f.authorization_url)
-    (next_row (text_of_kind f.token_url)
     (next_row (option_of_kind text_of text text_of_kind f.refresh_url)
-    (next_row (scopes_member_of_kind f.scopes) no_rows))))
+    (next_row (scopes_member_of_kind f.scopes)
+    (next_row (text_of_kind f.token_url) no_rows))))
     (extends_of_kind (option_map extensions_view f.extensions))
 
 -- ---- the flow of devices without a browser, from OpenAPI 3.2 on
@@ -124,9 +124,9 @@ abbrev pub device_authorization_doc : DeviceAuthorization → Doc
 device_authorization_doc f =
     table_doc device_authorization_flow
     (doc (text_of f.device_authorization_url)
-    (doc (text_of f.token_url)
     (doc (option_of text_of f.refresh_url)
-    (doc (scopes_member f.scopes) no_docs))))
+    (doc (scopes_member f.scopes)
+    (doc (text_of f.token_url) no_docs))))
     (option_map extensions_view f.extensions)
 
 -- the flow's members are an object of their type
@@ -134,7 +134,7 @@ pub device_authorization_of_kind : (f : DeviceAuthorization) → IsOf (device_au
 device_authorization_of_kind f =
     table_of_kind _ _
     (next_row (text_of_kind f.device_authorization_url)
-    (next_row (text_of_kind f.token_url)
     (next_row (option_of_kind text_of text text_of_kind f.refresh_url)
-    (next_row (scopes_member_of_kind f.scopes) no_rows))))
+    (next_row (scopes_member_of_kind f.scopes)
+    (next_row (text_of_kind f.token_url) no_rows))))
     (extends_of_kind (option_map extensions_view f.extensions))

@@ -73,18 +73,18 @@ format_for scheme earlier format = earlier
 abbrev pub http_doc : Http → Doc
 http_doc s =
     table_doc http_scheme
-    (doc (auth_scheme_doc s.scheme)
     (doc (option_of text_of s.bearer_format)
+    (doc (option_of deprecated_doc s.deprecated)
     (doc (option_of text_of s.description)
-    (doc (option_of deprecated_doc s.deprecated) no_docs))))
+    (doc (auth_scheme_doc s.scheme) no_docs))))
     (option_map extensions_view s.extensions)
 
 -- a scheme by HTTP is an object of its type
 pub http_of_kind : (s : Http) → IsOf (http_doc s) (value_of (named http_scheme))
 http_of_kind s =
     table_of_kind _ _
-    (next_row (auth_scheme_of_kind s.scheme)
     (next_row (option_of_kind text_of text text_of_kind s.bearer_format)
+    (next_row (option_of_kind deprecated_doc flag deprecated_of_kind s.deprecated)
     (next_row (option_of_kind text_of text text_of_kind s.description)
-    (next_row (option_of_kind deprecated_doc flag deprecated_of_kind s.deprecated) no_rows))))
+    (next_row (auth_scheme_of_kind s.scheme) no_rows))))
     (extends_of_kind (option_map extensions_view s.extensions))

@@ -118,18 +118,18 @@ made_oauth2 held description = record { flows = held; oauth2_metadata_url = None
 abbrev pub oauth2_doc : OAuth2 → Doc
 oauth2_doc s =
     table_doc oauth2_scheme
-    (doc (flows_doc s.flows)
-    (doc (option_of text_of s.oauth2_metadata_url)
+    (doc (option_of deprecated_doc s.deprecated)
     (doc (option_of text_of s.description)
-    (doc (option_of deprecated_doc s.deprecated) no_docs))))
+    (doc (flows_doc s.flows)
+    (doc (option_of text_of s.oauth2_metadata_url) no_docs))))
     (option_map extensions_view s.extensions)
 
 -- a scheme by OAuth is an object of its type
 pub oauth2_of_kind : (s : OAuth2) → IsOf (oauth2_doc s) (value_of (named oauth2_scheme))
 oauth2_of_kind s =
     table_of_kind _ _
-    (next_row (flows_of_kind s.flows)
-    (next_row (option_of_kind text_of text text_of_kind s.oauth2_metadata_url)
+    (next_row (option_of_kind deprecated_doc flag deprecated_of_kind s.deprecated)
     (next_row (option_of_kind text_of text text_of_kind s.description)
-    (next_row (option_of_kind deprecated_doc flag deprecated_of_kind s.deprecated) no_rows))))
+    (next_row (flows_of_kind s.flows)
+    (next_row (option_of_kind text_of text text_of_kind s.oauth2_metadata_url) no_rows))))
     (extends_of_kind (option_map extensions_view s.extensions))

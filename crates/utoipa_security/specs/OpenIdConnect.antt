@@ -18,16 +18,16 @@ made_open_id_connect url description = record { open_id_connect_url = url; descr
 abbrev pub open_id_connect_doc : OpenIdConnect → Doc
 open_id_connect_doc s =
     table_doc open_id_connect_scheme
-    (doc (text_of s.open_id_connect_url)
+    (doc (option_of deprecated_doc s.deprecated)
     (doc (option_of text_of s.description)
-    (doc (option_of deprecated_doc s.deprecated) no_docs)))
+    (doc (text_of s.open_id_connect_url) no_docs)))
     (option_map extensions_view s.extensions)
 
 -- a scheme by OpenID Connect is an object of its type
 pub open_id_connect_of_kind : (s : OpenIdConnect) → IsOf (open_id_connect_doc s) (value_of (named open_id_connect_scheme))
 open_id_connect_of_kind s =
     table_of_kind _ _
-    (next_row (text_of_kind s.open_id_connect_url)
+    (next_row (option_of_kind deprecated_doc flag deprecated_of_kind s.deprecated)
     (next_row (option_of_kind text_of text text_of_kind s.description)
-    (next_row (option_of_kind deprecated_doc flag deprecated_of_kind s.deprecated) no_rows)))
+    (next_row (text_of_kind s.open_id_connect_url) no_rows)))
     (extends_of_kind (option_map extensions_view s.extensions))

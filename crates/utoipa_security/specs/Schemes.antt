@@ -48,8 +48,8 @@ every_scheme_type = types.OAuth2 ∷ types.ApiKey ∷ types.Http ∷ types.OpenI
 abbrev pub mutual_tls_doc : Option (String Global) → Option Deprecated → Option Extensions → Doc
 mutual_tls_doc description deprecated extensions =
     table_doc mutual_tls_scheme
-    (doc (option_of text_of description)
-    (doc (option_of deprecated_doc deprecated) no_docs))
+    (doc (option_of deprecated_doc deprecated)
+    (doc (option_of text_of description) no_docs))
     (option_map extensions_view extensions)
 
 -- the type of a scheme
@@ -76,8 +76,8 @@ scheme_doc s = tagged_doc (codes "type") (scheme_type_text (type_of s)) (scheme_
 mutual_tls_of_kind : (description : Option (String Global)) (deprecated : Option Deprecated) (extensions : Option Extensions) → IsOf (mutual_tls_doc description deprecated extensions) (value_of (named mutual_tls_scheme))
 mutual_tls_of_kind description deprecated extensions =
     table_of_kind _ _
-    (next_row (option_of_kind text_of text text_of_kind description)
-    (next_row (option_of_kind deprecated_doc flag deprecated_of_kind deprecated) no_rows))
+    (next_row (option_of_kind deprecated_doc flag deprecated_of_kind deprecated)
+    (next_row (option_of_kind text_of text text_of_kind description) no_rows))
     (extends_of_kind (option_map extensions_view extensions))
 
 -- a scheme is a security scheme

@@ -3,8 +3,9 @@ use crate::shared::{extension, is_written, is_written_first, text};
 use serde_json::Value;
 use utoipa_leaf::example::{Example, ExampleBuilder};
 
+// It is written with what was set alone.
 #[test]
-fn an_example_is_written_with_what_was_set_alone(rt: HostRuntime) {
+fn each_setter_of_an_example_sets_its_field(rt: HostRuntime) {
     let summed = ExampleBuilder::new(rt.alloc())
         .summary(text(&rt, "Accepted"))
         .build();
@@ -12,10 +13,6 @@ fn an_example_is_written_with_what_was_set_alone(rt: HostRuntime) {
     let test = Value::try_from_str(rt.alloc(), "test").expect(&rt, "memory for a text");
     let valued = Example::builder(rt.alloc()).value(Some(test)).build();
     is_written(&rt, valued, "{\"value\":\"test\"}");
-}
-
-#[test]
-fn each_setter_of_an_example_sets_its_field(rt: HostRuntime) {
     let example = Example::builder(rt.alloc())
         .summary(text(&rt, "s"))
         .description(text(&rt, "d"))

@@ -3,28 +3,7 @@ use crate::shared::{extension, is_written, text};
 use std::process::Abort;
 use utoipa_leaf::info::{Contact, ContactBuilder, Info, InfoBuilder, License, LicenseBuilder};
 
-fn mit(rt: &(impl Abort + AllocGlobal)) -> License {
-    LicenseBuilder::new(rt.alloc())
-        .name(text(rt, "MIT"))
-        .url(Some(text(rt, "http://mit.licence")))
-        .build()
-}
-
-#[test]
-fn an_info_is_written_with_its_license(rt: HostRuntime) {
-    let info = InfoBuilder::new(rt.alloc())
-        .title(text(&rt, "My api"))
-        .version(text(&rt, "1.0.0"))
-        .description(Some(text(&rt, "My api description")))
-        .license(Some(mit(&rt)))
-        .build();
-    is_written(
-        &rt,
-        info,
-        "{\"description\":\"My api description\",\"license\":{\"name\":\"MIT\",\"url\":\"http://mit.licence\"},\"title\":\"My api\",\"version\":\"1.0.0\"}",
-    );
-}
-
+// A contact with all its members.
 fn whole_contact(rt: &(impl Abort + AllocGlobal)) -> Contact {
     Contact::builder()
         .name(Some(text(rt, "n")))
@@ -34,6 +13,7 @@ fn whole_contact(rt: &(impl Abort + AllocGlobal)) -> Contact {
         .build()
 }
 
+// A license with all its members.
 fn whole_license(rt: &(impl Abort + AllocGlobal)) -> License {
     License::builder(rt.alloc())
         .name(text(rt, "n"))
@@ -43,6 +23,7 @@ fn whole_license(rt: &(impl Abort + AllocGlobal)) -> License {
         .build()
 }
 
+// And those of its contact and its license set theirs.
 #[test]
 fn each_setter_of_an_info_sets_its_field(rt: HostRuntime) {
     let info = Info::builder(rt.alloc())
@@ -61,8 +42,24 @@ fn each_setter_of_an_info_sets_its_field(rt: HostRuntime) {
     );
 }
 
+// From nothing, or from a value.
 #[test]
-fn builders_go_on_from_a_value(rt: HostRuntime) {
+fn builders_go_on_from_what_they_begin_with(rt: HostRuntime) {
+    let mit = LicenseBuilder::new(rt.alloc())
+        .name(text(&rt, "MIT"))
+        .url(Some(text(&rt, "http://mit.licence")))
+        .build();
+    let info = InfoBuilder::new(rt.alloc())
+        .title(text(&rt, "My api"))
+        .version(text(&rt, "1.0.0"))
+        .description(Some(text(&rt, "My api description")))
+        .license(Some(mit))
+        .build();
+    is_written(
+        &rt,
+        info,
+        "{\"description\":\"My api description\",\"license\":{\"name\":\"MIT\",\"url\":\"http://mit.licence\"},\"title\":\"My api\",\"version\":\"1.0.0\"}",
+    );
     let info = Info::new(text(&rt, "My api"), text(&rt, "1.0.0"));
     let info = Info::from(InfoBuilder::from(info).version(text(&rt, "2")));
     is_written(&rt, info, "{\"title\":\"My api\",\"version\":\"2\"}");

@@ -14,10 +14,12 @@ use utoipa_media::link::Link;
 use utoipa_media::{read_content_map, read_encoding_list, read_ref_or_header};
 use utoipa_schema_parts::TypeWord;
 
+// The reference to a location.
 fn reference(rt: &(impl Abort + AllocGlobal), location: &str) -> Ref {
     Ref::new(rt.alloc(), text(rt, location))
 }
 
+// The encoding of a content type.
 fn encoding_of(rt: &(impl Abort + AllocGlobal), content_type: &str) -> Encoding {
     let content_type = text(rt, content_type);
     Encoding::builder(rt.alloc())
@@ -25,66 +27,7 @@ fn encoding_of(rt: &(impl Abort + AllocGlobal), content_type: &str) -> Encoding 
         .build()
 }
 
-#[test]
-fn a_property_takes_its_later_encoding(rt: HostRuntime) {
-    let builder = Content::builder(rt.alloc());
-    let first = builder.encoding(text(&rt, "a"), encoding_of(&rt, "text/plain"));
-    let first = first.expect(&rt, "memory for an encoding");
-    let later = first.encoding(text(&rt, "a"), encoding_of(&rt, "image/png"));
-    let content = later.expect(&rt, "memory for an encoding").build();
-    let expected = r#"{"encoding":{"a":{"contentType":"image/png"}}}"#;
-    is_written(&rt, content, expected);
-}
-
-#[test]
-fn items_take_the_encodings_that_were_set(rt: HostRuntime) {
-    let given = two(&rt, encoding_of(&rt, "a/a"), encoding_of(&rt, "b/b"));
-    let builder = Encoding::builder(rt.alloc()).prefix_encoding(rt.alloc(), given);
-    let builder = builder.expect(&rt, "memory for a list");
-    let builder = builder.item_encoding(rt.alloc(), Some(encoding_of(&rt, "c/c")));
-    let encoding = builder.expect(&rt, "memory for an encoding").build();
-    let expected =
-        r#"{"itemEncoding":{"contentType":"c/c"},"prefixEncoding":[{"contentType":"a/a"},{"contentType":"b/b"}]}"#;
-    is_written(&rt, encoding, expected);
-}
-
-#[test]
-fn items_of_a_content_take_the_encodings_that_were_set(rt: HostRuntime) {
-    let given = two(&rt, encoding_of(&rt, "b/b"), encoding_of(&rt, "a/a"));
-    let builder = Content::builder(rt.alloc()).prefix_encoding(rt.alloc(), given);
-    let content = builder.expect(&rt, "memory for a list").build();
-    let expected = r#"{"prefixEncoding":[{"contentType":"b/b"},{"contentType":"a/a"}]}"#;
-    is_written(&rt, content, expected);
-}
-
-#[test]
-fn a_name_holds_a_header_or_a_reference(rt: HostRuntime) {
-    let header = Header::new(rt.alloc(), place_of(&rt, TypeWord::Integer));
-    let builder = Encoding::builder(rt.alloc()).header(text(&rt, "a"), header);
-    let builder = builder.expect(&rt, "memory for a header");
-    let builder = builder.header_ref(text(&rt, "b"), reference(&rt, "#/b"));
-    let encoding = builder.expect(&rt, "memory for a header").build();
-    let expected = r##"{"headers":{"a":{"schema":{"type":"integer"}},"b":{"$ref":"#/b"}}}"##;
-    is_written(&rt, encoding, expected);
-}
-
-#[test]
-fn a_header_holds_contents_by_their_types(rt: HostRuntime) {
-    let content = Content::new(rt.alloc(), Some(place_of(&rt, TypeWord::String)));
-    let builder = Header::builder(rt.alloc()).content(text(&rt, "a/a"), RefOr::T(content));
-    let builder = builder.expect(&rt, "memory for a content");
-    let given = Vec::from_array(
-        rt.alloc(),
-        [(text(&rt, "b/b"), RefOr::Ref(reference(&rt, "#/b")))],
-    );
-    let given = given.expect(&rt, "memory for a list");
-    let builder = builder.content_from_iter(given.into_iter());
-    let header = builder.expect(&rt, "memory for a content").build();
-    let expected =
-        r##"{"content":{"a/a":{"schema":{"type":"string"}},"b/b":{"$ref":"#/b"}},"schema":{"type":"string"}}"##;
-    is_written(&rt, header, expected);
-}
-
+// The example with a summary.
 fn example_of(rt: &(impl Abort + AllocGlobal), summary: &str) -> RefOr<Example> {
     let summary = text(rt, summary);
     RefOr::T(Example::builder(rt.alloc()).summary(summary).build())
@@ -99,22 +42,82 @@ fn examples(rt: &(impl Abort + AllocGlobal)) -> IntoIter<(String, RefOr<Example>
     )
 }
 
+// A property takes its later encoding, and a name its later example; items take the encodings that were set, in their order.
 #[test]
-fn a_name_takes_its_later_example(rt: HostRuntime) {
-    let builder = Content::builder(rt.alloc()).examples_from_iter(examples(&rt));
+fn a_content_is_written_as_it_was_built(rt: HostRuntime) {
+    let builder = Content::builder(rt.alloc()).schema(Some(place_of(&rt, TypeWord::String)));
+    let builder = builder.item_schema(Some(place_of(&rt, TypeWord::Integer)));
+    let builder = builder
+        .description(Some(text(&rt, "d")))
+        .example(Some(Value::from(1u64)));
+    let builder = builder.extensions(extension(&rt));
+    let builder = builder.item_encoding(rt.alloc(), Some(encoding_of(&rt, "a/a")));
+    let builder = builder.expect(&rt, "memory for an encoding");
+    let first = builder.encoding(text(&rt, "a"), encoding_of(&rt, "text/plain"));
+    let first = first.expect(&rt, "memory for an encoding");
+    let later = first.encoding(text(&rt, "a"), encoding_of(&rt, "image/png"));
+    let builder = later.expect(&rt, "memory for an encoding");
+    let given = two(&rt, encoding_of(&rt, "b/b"), encoding_of(&rt, "a/a"));
+    let builder = builder.prefix_encoding(rt.alloc(), given);
+    let builder = builder.expect(&rt, "memory for a list");
+    let builder = builder.examples_from_iter(examples(&rt));
     let content = builder.expect(&rt, "memory for examples").build();
-    let expected = r#"{"examples":{"a":{"summary":"later"}}}"#;
+    let expected =
+        r#"{"description":"d","encoding":{"a":{"contentType":"image/png"}},"example":1,"examples":{"a":{"summary":"later"}},"itemEncoding":{"contentType":"a/a"},"itemSchema":{"type":"integer"},"prefixEncoding":[{"contentType":"b/b"},{"contentType":"a/a"}],"schema":{"type":"string"},"x-a":1}"#;
     is_written(&rt, content, expected);
 }
 
+// A name holds a header or a reference, and items take the encodings that were set, in their order.
 #[test]
-fn a_name_in_a_header_takes_its_later_example(rt: HostRuntime) {
-    let builder = Header::builder(rt.alloc()).examples_from_iter(examples(&rt));
+fn an_encoding_is_written_as_it_was_built(rt: HostRuntime) {
+    let builder = Encoding::builder(rt.alloc()).style(Some(ParameterStyle::Form));
+    let builder = builder.explode(Some(false)).allow_reserved(Some(true));
+    let builder = builder.extensions(extension(&rt));
+    let builder = builder.encoding(text(&rt, "p"), encoding_of(&rt, "a/a"));
+    let builder = builder.expect(&rt, "memory for an encoding");
+    let given = two(&rt, encoding_of(&rt, "a/a"), encoding_of(&rt, "b/b"));
+    let builder = builder.prefix_encoding(rt.alloc(), given);
+    let builder = builder.expect(&rt, "memory for a list");
+    let builder = builder.item_encoding(rt.alloc(), Some(encoding_of(&rt, "c/c")));
+    let builder = builder.expect(&rt, "memory for an encoding");
+    let header = Header::new(rt.alloc(), place_of(&rt, TypeWord::Integer));
+    let builder = builder.header(text(&rt, "a"), header);
+    let builder = builder.expect(&rt, "memory for a header");
+    let builder = builder.header_ref(text(&rt, "b"), reference(&rt, "#/b"));
+    let encoding = builder.expect(&rt, "memory for a header").build();
+    let expected =
+        r##"{"allowReserved":true,"encoding":{"p":{"contentType":"a/a"}},"explode":false,"headers":{"a":{"schema":{"type":"integer"}},"b":{"$ref":"#/b"}},"itemEncoding":{"contentType":"c/c"},"prefixEncoding":[{"contentType":"a/a"},{"contentType":"b/b"}],"style":"form","x-a":1}"##;
+    is_written(&rt, encoding, expected);
+}
+
+// It holds contents and references by their types, and a name takes its later example. Its schema is that of any text, unless it is set.
+#[test]
+fn a_header_is_written_as_it_was_built(rt: HostRuntime) {
+    let example = Value::try_from_str(rt.alloc(), "example-value");
+    let builder = Header::builder(rt.alloc()).description(Some(text(&rt, "custom header")));
+    let builder = builder.deprecated(Some(Deprecated::True));
+    let builder = builder
+        .style(Some(ParameterStyle::Simple))
+        .explode(Some(true));
+    let builder = builder.example(Some(example.expect(&rt, "memory for a text")));
+    let content = Content::new(rt.alloc(), Some(place_of(&rt, TypeWord::String)));
+    let builder = builder.content(text(&rt, "a/a"), RefOr::T(content));
+    let builder = builder.expect(&rt, "memory for a content");
+    let given = Vec::from_array(
+        rt.alloc(),
+        [(text(&rt, "b/b"), RefOr::Ref(reference(&rt, "#/b")))],
+    );
+    let given = given.expect(&rt, "memory for a list");
+    let builder = builder.content_from_iter(given.into_iter());
+    let builder = builder.expect(&rt, "memory for a content");
+    let builder = builder.examples_from_iter(examples(&rt));
     let header = builder.expect(&rt, "memory for examples").build();
-    let expected = r#"{"examples":{"a":{"summary":"later"}},"schema":{"type":"string"}}"#;
+    let expected =
+        r##"{"content":{"a/a":{"schema":{"type":"string"}},"b/b":{"$ref":"#/b"}},"deprecated":true,"description":"custom header","example":"example-value","examples":{"a":{"summary":"later"}},"explode":true,"schema":{"type":"string"},"style":"simple"}"##;
     is_written(&rt, header, expected);
 }
 
+// With a parameter under its name.
 #[test]
 fn a_link_is_written_with_what_was_set_alone(rt: HostRuntime) {
     let builder = Link::builder(rt.alloc()).operation_id(text(&rt, "getUserAddress"));
@@ -126,47 +129,7 @@ fn a_link_is_written_with_what_was_set_alone(rt: HostRuntime) {
     is_written(&rt, link, expected);
 }
 
-#[test]
-fn a_header_is_written_as_it_was_built(rt: HostRuntime) {
-    let example = Value::try_from_str(rt.alloc(), "example-value");
-    let builder = Header::builder(rt.alloc()).description(Some(text(&rt, "custom header")));
-    let builder = builder.deprecated(Some(Deprecated::True));
-    let builder = builder
-        .style(Some(ParameterStyle::Simple))
-        .explode(Some(true));
-    let builder = builder.example(Some(example.expect(&rt, "memory for a text")));
-    let expected =
-        r#"{"deprecated":true,"description":"custom header","example":"example-value","explode":true,"schema":{"type":"string"},"style":"simple"}"#;
-    is_written(&rt, builder.build(), expected);
-}
-
-#[test]
-fn a_content_is_written_as_it_was_built(rt: HostRuntime) {
-    let builder = Content::builder(rt.alloc()).schema(Some(place_of(&rt, TypeWord::String)));
-    let builder = builder.item_schema(Some(place_of(&rt, TypeWord::Integer)));
-    let builder = builder
-        .description(Some(text(&rt, "d")))
-        .example(Some(Value::from(1u64)));
-    let builder = builder.extensions(extension(&rt));
-    let builder = builder.item_encoding(rt.alloc(), Some(encoding_of(&rt, "a/a")));
-    let content = builder.expect(&rt, "memory for an encoding").build();
-    let expected =
-        r#"{"description":"d","example":1,"itemEncoding":{"contentType":"a/a"},"itemSchema":{"type":"integer"},"schema":{"type":"string"},"x-a":1}"#;
-    is_written(&rt, content, expected);
-}
-
-#[test]
-fn an_encoding_is_written_as_it_was_built(rt: HostRuntime) {
-    let builder = Encoding::builder(rt.alloc()).style(Some(ParameterStyle::Form));
-    let builder = builder.explode(Some(false)).allow_reserved(Some(true));
-    let builder = builder.extensions(extension(&rt));
-    let builder = builder.encoding(text(&rt, "p"), encoding_of(&rt, "a/a"));
-    let encoding = builder.expect(&rt, "memory for an encoding").build();
-    let expected =
-        r#"{"allowReserved":true,"encoding":{"p":{"contentType":"a/a"}},"explode":false,"style":"form","x-a":1}"#;
-    is_written(&rt, encoding, expected);
-}
-
+// With a reading for each place of a schema.
 #[test]
 fn headers_encodings_and_contents_are_read_as_the_generic_types_read_them(rt: HostRuntime) {
     let mut readings = Readings::new();

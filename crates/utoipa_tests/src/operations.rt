@@ -1,7 +1,6 @@
 //! Operations and callbacks, as their constructors and builders make them.
 use crate::shared::{
-    extension, is_flag, is_json, is_number, is_text, is_written, is_written_first, read, text,
-    tree, two,
+    extension, is_flag, is_number, is_text, is_written, is_written_first, read, text, tree, two,
 };
 use std::collections::BTreeMap;
 use std::process::Abort;
@@ -15,20 +14,18 @@ use utoipa_path::{
 };
 use utoipa_security::security::SecurityRequirement;
 
+// The reference to a location.
 fn reference(rt: &(impl Abort + AllocGlobal), location: &str) -> Ref {
     Ref::new(rt.alloc(), text(rt, location))
 }
 
-#[test]
-fn nothing_is_said_of_a_new_operation(rt: HostRuntime) {
-    let expected = r#"{"responses":{}}"#;
-    is_written(&rt, Operation::new(rt.alloc()), expected);
-    is_written(&rt, Operation::builder(rt.alloc()).build(), expected);
-    is_written(&rt, OperationBuilder::new(rt.alloc()).build(), expected);
-}
-
+// Of a new one nothing is said.
 #[test]
 fn an_operation_is_described(rt: HostRuntime) {
+    let empty = r#"{"responses":{}}"#;
+    is_written(&rt, Operation::new(rt.alloc()), empty);
+    is_written(&rt, OperationBuilder::new(rt.alloc()).build(), empty);
+    is_written(&rt, Operation::builder(rt.alloc()).build(), empty);
     let builder = Operation::builder(rt.alloc()).summary(Some(text(&rt, "s")));
     let builder = builder.description(Some(text(&rt, "d")));
     let builder = builder.operation_id(Some(text(&rt, "o")));
@@ -44,19 +41,55 @@ fn an_operation_is_described(rt: HostRuntime) {
     is_written(&rt, moved.build(), left);
 }
 
+// ---- tags, security and servers
+
+// The requirement of the scope `s` of that scheme.
+fn requirement(rt: &(impl Abort + AllocGlobal), name: &str) -> SecurityRequirement {
+    let scopes = Some(text(rt, "s")).into_iter();
+    let made = SecurityRequirement::new(rt.alloc(), text(rt, name), scopes);
+    made.expect(rt, "memory for a requirement")
+}
+
+// The builder with a tag and a requirement of that name, and a server at that URL, behind those that stand.
+fn with_one_more(
+    rt: &(impl Abort + AllocGlobal),
+    builder: OperationBuilder,
+    name: &str,
+    url: &str,
+) -> OperationBuilder {
+    let builder = builder.tag(rt.alloc(), text(rt, name));
+    let builder = builder.expect(rt, "memory for a tag");
+    let builder = builder.security(rt.alloc(), requirement(rt, name));
+    let builder = builder.expect(rt, "memory for a requirement");
+    let builder = builder.server(rt.alloc(), Server::new(text(rt, url)));
+    builder.expect(rt, "memory for a server")
+}
+
+// They are added to those that stand, set, and cleared.
 #[test]
-fn a_tag_is_added_to_those_that_stand(rt: HostRuntime) {
-    let builder = Operation::builder(rt.alloc()).tag(rt.alloc(), text(&rt, "b"));
-    let builder = builder.expect(&rt, "memory for a tag");
-    let builder = builder.tag(rt.alloc(), text(&rt, "a"));
-    let operation = builder.expect(&rt, "memory for a tag").build();
-    is_written_first(&rt, &operation, r#"{"responses":{},"tags":["b","a"]}"#);
-    let set = two(&rt, text(&rt, "d"), text(&rt, "c"));
-    let builder = OperationBuilder::from(operation).tags(rt.alloc(), Some(set));
-    let operation = builder.expect(&rt, "memory for tags").build();
-    is_written_first(&rt, &operation, r#"{"responses":{},"tags":["d","c"]}"#);
-    let none = None::<IntoIter<String>>;
-    let builder = OperationBuilder::from(operation).tags(rt.alloc(), none);
+fn tags_requirements_and_servers_stand_in_their_order(rt: HostRuntime) {
+    let builder = with_one_more(&rt, Operation::builder(rt.alloc()), "b", "v");
+    let operation = with_one_more(&rt, builder, "a", "u").build();
+    let both =
+        r#"{"responses":{},"security":[{"b":["s"]},{"a":["s"]}],"servers":[{"url":"v"},{"url":"u"}],"tags":["b","a"]}"#;
+    is_written_first(&rt, &operation, both);
+    let tags = two(&rt, text(&rt, "d"), text(&rt, "c"));
+    let builder = OperationBuilder::from(operation).tags(rt.alloc(), Some(tags));
+    let builder = builder.expect(&rt, "memory for tags");
+    let security = Some(SecurityRequirement::empty(rt.alloc())).into_iter();
+    let builder = builder.securities(rt.alloc(), Some(security));
+    let builder = builder.expect(&rt, "memory for a requirement");
+    let servers = Some(Server::new(text(&rt, "w"))).into_iter();
+    let builder = builder.servers(rt.alloc(), Some(servers));
+    let operation = builder.expect(&rt, "memory for a server").build();
+    let set = r#"{"responses":{},"security":[{}],"servers":[{"url":"w"}],"tags":["d","c"]}"#;
+    is_written_first(&rt, &operation, set);
+    let builder = OperationBuilder::from(operation);
+    let builder = builder.tags(rt.alloc(), None::<IntoIter<String>>);
+    let builder = builder.expect(&rt, "a builder");
+    let builder = builder.securities(rt.alloc(), None::<IntoIter<SecurityRequirement>>);
+    let builder = builder.expect(&rt, "a builder");
+    let builder = builder.servers(rt.alloc(), None::<IntoIter<Server>>);
     is_written(
         &rt,
         builder.expect(&rt, "a builder").build(),
@@ -66,38 +99,37 @@ fn a_tag_is_added_to_those_that_stand(rt: HostRuntime) {
 
 // ---- parameters and bodies
 
+// The parameter of that name, in the path.
 fn parameter(rt: &(impl Abort + AllocGlobal), name: &str) -> Parameter {
     Parameter::new(rt.alloc(), text(rt, name))
 }
 
+// Each by itself or by reference.
 #[test]
 fn parameters_are_added_to_those_that_stand_or_cleared(rt: HostRuntime) {
-    let given = Some(parameter(&rt, "p")).into_iter();
-    let builder = Operation::builder(rt.alloc()).parameters(rt.alloc(), Some(given));
-    let builder = builder.expect(&rt, "memory for a parameter");
-    let given = Some(parameter(&rt, "q")).into_iter();
-    let builder = builder.parameters(rt.alloc(), Some(given));
-    let operation = builder.expect(&rt, "memory for a parameter").build();
-    let expected =
-        r#"{"parameters":[{"in":"path","name":"p","required":true},{"in":"path","name":"q","required":true}],"responses":{}}"#;
-    is_written_first(&rt, &operation, expected);
-    let none = None::<IntoIter<Parameter>>;
-    let builder = OperationBuilder::from(operation).parameters(rt.alloc(), none);
-    let operation = builder.expect(&rt, "a builder").build();
-    is_flag(&rt, operation.parameters.is_none(), true);
-}
-
-#[test]
-fn a_parameter_is_added_by_itself_or_by_reference(rt: HostRuntime) {
     let builder = Operation::builder(rt.alloc()).parameter_ref(rt.alloc(), reference(&rt, "#/q"));
     let builder = builder.expect(&rt, "memory for a reference");
     let builder = builder.parameter(rt.alloc(), parameter(&rt, "p"));
     let operation = builder.expect(&rt, "memory for a parameter").build();
     let expected =
         r##"{"parameters":[{"$ref":"#/q"},{"in":"path","name":"p","required":true}],"responses":{}}"##;
+    is_written_first(&rt, &operation, expected);
+    let builder = OperationBuilder::from(operation);
+    let builder = builder.parameters(rt.alloc(), None::<IntoIter<Parameter>>);
+    let operation = builder.expect(&rt, "a builder").build();
+    is_flag(&rt, operation.parameters.is_none(), true);
+    let given = Some(parameter(&rt, "p")).into_iter();
+    let builder = OperationBuilder::from(operation).parameters(rt.alloc(), Some(given));
+    let builder = builder.expect(&rt, "memory for a parameter");
+    let given = Some(parameter(&rt, "q")).into_iter();
+    let builder = builder.parameters(rt.alloc(), Some(given));
+    let operation = builder.expect(&rt, "memory for a parameter").build();
+    let expected =
+        r#"{"parameters":[{"in":"path","name":"p","required":true},{"in":"path","name":"q","required":true}],"responses":{}}"#;
     is_written(&rt, operation, expected);
 }
 
+// Or that there is none.
 #[test]
 fn a_body_is_set_by_itself_or_by_reference(rt: HostRuntime) {
     let body = RequestBody::new(rt.alloc());
@@ -117,10 +149,12 @@ fn a_body_is_set_by_itself_or_by_reference(rt: HostRuntime) {
 
 // ---- responses
 
+// The response with a description, where a reference could stand.
 fn response(rt: &(impl Abort + AllocGlobal), description: &str) -> RefOr<Response> {
     RefOr::T(Response::new(rt.alloc(), text(rt, description)))
 }
 
+// Also in place of one that was set with all responses.
 #[test]
 fn a_code_of_an_operation_takes_its_later_response(rt: HostRuntime) {
     let set = Responses::builder(rt.alloc()).response(text(&rt, "200"), response(&rt, "first"));
@@ -138,57 +172,6 @@ fn a_code_of_an_operation_takes_its_later_response(rt: HostRuntime) {
     is_written(&rt, operation, expected);
 }
 
-// ---- security and servers
-
-fn requirement(rt: &(impl Abort + AllocGlobal), name: &str) -> SecurityRequirement {
-    let scopes = Some(text(rt, "s")).into_iter();
-    let made = SecurityRequirement::new(rt.alloc(), text(rt, name), scopes);
-    made.expect(rt, "memory for a requirement")
-}
-
-#[test]
-fn security_requirements_stand_in_their_order(rt: HostRuntime) {
-    let builder = Operation::builder(rt.alloc()).security(rt.alloc(), requirement(&rt, "b"));
-    let builder = builder.expect(&rt, "memory for a requirement");
-    let builder = builder.security(rt.alloc(), requirement(&rt, "a"));
-    let operation = builder.expect(&rt, "memory for a requirement").build();
-    let both = r#"{"responses":{},"security":[{"b":["s"]},{"a":["s"]}]}"#;
-    is_written_first(&rt, &operation, both);
-    let set = Some(SecurityRequirement::empty(rt.alloc())).into_iter();
-    let builder = OperationBuilder::from(operation).securities(rt.alloc(), Some(set));
-    let operation = builder.expect(&rt, "memory for a requirement").build();
-    is_written_first(&rt, &operation, r#"{"responses":{},"security":[{}]}"#);
-    let none = None::<IntoIter<SecurityRequirement>>;
-    let builder = OperationBuilder::from(operation).securities(rt.alloc(), none);
-    is_written(
-        &rt,
-        builder.expect(&rt, "a builder").build(),
-        r#"{"responses":{}}"#,
-    );
-}
-
-#[test]
-fn servers_stand_in_their_order(rt: HostRuntime) {
-    let builder = Operation::builder(rt.alloc()).server(rt.alloc(), Server::new(text(&rt, "v")));
-    let builder = builder.expect(&rt, "memory for a server");
-    let builder = builder.server(rt.alloc(), Server::new(text(&rt, "u")));
-    let operation = builder.expect(&rt, "memory for a server").build();
-    let both = r#"{"responses":{},"servers":[{"url":"v"},{"url":"u"}]}"#;
-    is_written_first(&rt, &operation, both);
-    let set = Some(Server::new(text(&rt, "w"))).into_iter();
-    let builder = OperationBuilder::from(operation).servers(rt.alloc(), Some(set));
-    let operation = builder.expect(&rt, "memory for a server").build();
-    let set = r#"{"responses":{},"servers":[{"url":"w"}]}"#;
-    is_written_first(&rt, &operation, set);
-    let none = None::<IntoIter<Server>>;
-    let builder = OperationBuilder::from(operation).servers(rt.alloc(), none);
-    is_written(
-        &rt,
-        builder.expect(&rt, "a builder").build(),
-        r#"{"responses":{}}"#,
-    );
-}
-
 // ---- callbacks
 
 // The callback of one path item at an expression. The item stands at a location too, and has a summary.
@@ -201,7 +184,7 @@ fn callback(rt: &(impl Abort + AllocGlobal), location: &str, summary: &str) -> C
     callback
 }
 
-// Under the expression stands a reference to the location, with the summary.
+// Under the expression stands a reference to the location, with the summary. An item that has both is written alike.
 fn is_reference(rt: &impl Abort, callback: &Callback, location: &str, summary: &str) {
     is_number(rt, callback.len() as u64, 1);
     match callback.get("e") {
@@ -213,18 +196,18 @@ fn is_reference(rt: &impl Abort, callback: &Callback, location: &str, summary: &
     }
 }
 
+// Of a callback and of what a group reads.
 #[test]
 fn an_item_with_a_reference_reads_back_as_a_reference(rt: HostRuntime) {
     let expected = r##"{"e":{"$ref":"#/p","summary":"s"}}"##;
     is_written(&rt, callback(&rt, "#/p", "s"), expected);
-    let again: Callback = read(&rt, expected);
-    is_reference(&rt, &again, "#/p", "s");
-    is_written(&rt, again, expected);
+    is_reference(&rt, &read::<Callback>(&rt, expected), "#/p", "s");
     let mut readings = Readings::new();
     let again = read_callback(rt.alloc(), &tree(&rt, expected), &mut readings);
     is_reference(&rt, &again.expect(&rt, "a callback"), "#/p", "s");
 }
 
+// Put alone, or with others.
 #[test]
 fn a_name_takes_its_later_callback(rt: HostRuntime) {
     let first = RefOr::T(callback(&rt, "#/p", "s"));
@@ -243,6 +226,7 @@ fn a_name_takes_its_later_callback(rt: HostRuntime) {
     is_written(&rt, operation, expected);
 }
 
+// With a reading for each place of a schema.
 #[test]
 fn callbacks_and_operations_are_read_as_the_generic_types_read_them(rt: HostRuntime) {
     let mut readings = Readings::new();
@@ -258,13 +242,4 @@ fn callbacks_and_operations_are_read_as_the_generic_types_read_them(rt: HostRunt
     let map = read_operation_map(rt.alloc(), &tree(&rt, operations), &mut readings);
     is_written(&rt, map.expect(&rt, "operations"), operations);
     is_number(&rt, readings.number(), 1);
-}
-
-#[test]
-fn an_operation_with_a_callback_reads_back(rt: HostRuntime) {
-    let expected =
-        r##"{"callbacks":{"onEvent":{"{$request.body#/callbackUrl}":{"query":{"responses":{"200":{}}}}}},"responses":{"202":{"summary":"Accepted"}}}"##;
-    let operation: Operation = read(&rt, expected);
-    is_json(&rt, &operation, expected);
-    is_written(&rt, operation, expected);
 }

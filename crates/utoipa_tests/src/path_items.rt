@@ -1,4 +1,4 @@
-//! Path items, as their constructors and builders make them, and merged.
+//! Path items, as their constructors and builders make them, and the operations that one takes of another.
 use crate::shared::{extension, is_json, is_text, is_written, is_written_first, read, text, two};
 use std::process::Abort;
 use std::vec::IntoIter;
@@ -15,12 +15,31 @@ fn operation(rt: &(impl Abort + AllocGlobal), name: &str) -> Operation {
     builder.operation_id(Some(text(rt, name))).build()
 }
 
+// Of a method it takes the later operation, and methods hold copies of one.
 #[test]
-fn an_item_holds_the_operation_of_its_method(rt: HostRuntime) {
+fn an_item_holds_the_operations_of_its_methods(rt: HostRuntime) {
     is_written(&rt, PathItem::builder(rt.alloc()).build(), "{}");
     is_written(&rt, PathItemBuilder::new(rt.alloc()).build(), "{}");
     let item = PathItem::new(rt.alloc(), HttpMethod::Post, operation(&rt, "o"));
     is_written(&rt, item, r#"{"post":{"operationId":"o","responses":{}}}"#);
+    let first = PathItem::new(rt.alloc(), HttpMethod::Head, operation(&rt, "first"));
+    let builder = PathItemBuilder::from(first).query(Some(operation(&rt, "q")));
+    let builder = builder.operation(HttpMethod::Head, operation(&rt, "later"));
+    let later = builder.query(None).build();
+    is_written(
+        &rt,
+        later,
+        r#"{"head":{"operationId":"later","responses":{}}}"#,
+    );
+    let builder = Operation::builder(rt.alloc()).tag(rt.alloc(), text(&rt, "t"));
+    let copied = builder.expect(&rt, "memory for a tag").build();
+    let methods = two(&rt, HttpMethod::Trace, HttpMethod::Get);
+    let item = PathItem::from_http_methods(rt.alloc(), methods, copied);
+    let expected = r#"{"get":{"responses":{},"tags":["t"]},"trace":{"responses":{},"tags":["t"]}}"#;
+    is_written(&rt, item.expect(&rt, "memory for copies"), expected);
+    let none = None::<HttpMethod>.into_iter();
+    let item = PathItem::from_http_methods(rt.alloc(), none, operation(&rt, "o"));
+    is_written(&rt, item.expect(&rt, "an item"), "{}");
 }
 
 // The item with an operation at each method, named by its first letters.
@@ -37,29 +56,6 @@ fn every_method(rt: &(impl Abort + AllocGlobal)) -> PathItem {
     builder.query(Some(operation(rt, "q"))).build()
 }
 
-#[test]
-fn each_method_has_its_member(rt: HostRuntime) {
-    let expected =
-        r#"{"delete":{"operationId":"d","responses":{}},"get":{"operationId":"g","responses":{}},"head":{"operationId":"h","responses":{}},"options":{"operationId":"o","responses":{}},"patch":{"operationId":"pa","responses":{}},"post":{"operationId":"po","responses":{}},"put":{"operationId":"pu","responses":{}},"query":{"operationId":"q","responses":{}},"trace":{"operationId":"t","responses":{}}}"#;
-    let item = every_method(&rt);
-    is_json(&rt, &item, expected);
-    is_written(&rt, item, expected);
-    is_written(&rt, read::<PathItem>(&rt, expected), expected);
-}
-
-#[test]
-fn a_method_takes_its_later_operation(rt: HostRuntime) {
-    let first = PathItem::new(rt.alloc(), HttpMethod::Head, operation(&rt, "first"));
-    let builder = PathItemBuilder::from(first).query(Some(operation(&rt, "q")));
-    let builder = builder.operation(HttpMethod::Head, operation(&rt, "later"));
-    let later = builder.query(None).build();
-    is_written(
-        &rt,
-        later,
-        r#"{"head":{"operationId":"later","responses":{}}}"#,
-    );
-}
-
 // The operation of the method has that name.
 fn stands_at(rt: &impl Abort, item: &PathItem, method: HttpMethod, name: &str) {
     match operation_of(item, method) {
@@ -71,8 +67,9 @@ fn stands_at(rt: &impl Abort, item: &PathItem, method: HttpMethod, name: &str) {
     }
 }
 
+// There its operation is found.
 #[test]
-fn an_operation_is_found_by_its_method(rt: HostRuntime) {
+fn each_method_has_its_member(rt: HostRuntime) {
     let item = every_method(&rt);
     stands_at(&rt, &item, HttpMethod::Get, "g");
     stands_at(&rt, &item, HttpMethod::Post, "po");
@@ -82,10 +79,15 @@ fn an_operation_is_found_by_its_method(rt: HostRuntime) {
     stands_at(&rt, &item, HttpMethod::Head, "h");
     stands_at(&rt, &item, HttpMethod::Patch, "pa");
     stands_at(&rt, &item, HttpMethod::Trace, "t");
+    let expected =
+        r#"{"delete":{"operationId":"d","responses":{}},"get":{"operationId":"g","responses":{}},"head":{"operationId":"h","responses":{}},"options":{"operationId":"o","responses":{}},"patch":{"operationId":"pa","responses":{}},"post":{"operationId":"po","responses":{}},"put":{"operationId":"pu","responses":{}},"query":{"operationId":"q","responses":{}},"trace":{"operationId":"t","responses":{}}}"#;
+    is_json(&rt, &item, expected);
+    is_written(&rt, item, expected);
     let queried = PathItem::builder(rt.alloc()).query(Some(operation(&rt, "q")));
     stands_at(&rt, &queried.build(), HttpMethod::Get, "none");
 }
 
+// Each setter sets its member, or that there is none.
 #[test]
 fn an_item_is_described(rt: HostRuntime) {
     let builder = PathItem::builder(rt.alloc()).ref_path(Some(text(&rt, "#/p")));
@@ -102,7 +104,6 @@ fn an_item_is_described(rt: HostRuntime) {
     let all =
         r##"{"$ref":"#/p","description":"d","servers":[{"url":"v"},{"url":"u"}],"summary":"s","x-a":1}"##;
     is_written_first(&rt, &item, all);
-    is_written(&rt, read::<PathItem>(&rt, all), all);
     let none = None::<IntoIter<Server>>;
     let moved = PathItemBuilder::from(item).servers(rt.alloc(), none);
     let moved = moved.expect(&rt, "a builder").ref_path(None);
@@ -121,6 +122,7 @@ fn with_parameter(
     set.expect(rt, "memory for a parameter")
 }
 
+// In place of those that stand.
 #[test]
 fn parameters_are_set_by_themselves_or_by_reference(rt: HostRuntime) {
     let builder = with_parameter(&rt, PathItem::builder(rt.alloc()), "p");
@@ -144,6 +146,7 @@ fn parameters_are_set_by_themselves_or_by_reference(rt: HostRuntime) {
     is_written(&rt, builder.expect(&rt, "a builder").build(), "{}");
 }
 
+// Of one name the later stands.
 #[test]
 fn additional_operations_stand_by_the_names_of_their_methods(rt: HostRuntime) {
     let builder = PathItem::builder(rt.alloc());
@@ -162,70 +165,9 @@ fn additional_operations_stand_by_the_names_of_their_methods(rt: HostRuntime) {
     stands_at(&rt, &item, HttpMethod::Get, "none");
     is_json(&rt, &item, expected);
     is_written(&rt, item, expected);
-    is_written(&rt, read::<PathItem>(&rt, expected), expected);
-    let empty: PathItem = read(&rt, r#"{"additionalOperations":{}}"#);
-    is_json(&rt, &empty, "{}");
-    is_written(&rt, empty, "{}");
 }
 
-#[test]
-fn methods_hold_copies_of_an_operation(rt: HostRuntime) {
-    let builder = Operation::builder(rt.alloc()).tag(rt.alloc(), text(&rt, "t"));
-    let copied = builder.expect(&rt, "memory for a tag").build();
-    let methods = two(&rt, HttpMethod::Trace, HttpMethod::Get);
-    let item = PathItem::from_http_methods(rt.alloc(), methods, copied);
-    let expected = r#"{"get":{"responses":{},"tags":["t"]},"trace":{"responses":{},"tags":["t"]}}"#;
-    is_written(&rt, item.expect(&rt, "memory for copies"), expected);
-    let none = None::<HttpMethod>.into_iter();
-    let item = PathItem::from_http_methods(rt.alloc(), none, operation(&rt, "o"));
-    is_written(&rt, item.expect(&rt, "an item"), "{}");
-}
-
-// ---- merging
-
-// The first item takes the operations of the second which it lacks, and is written as the text then.
-fn are_merged(rt: &(impl Abort + AllocGlobal), first: &str, second: &str, expected: &str) {
-    let mut item: PathItem = read(rt, first);
-    let merged = item.merge_operations(rt.alloc(), read(rt, second));
-    merged.expect(rt, "memory for operations");
-    is_written(rt, item, expected);
-}
-
-#[test]
-fn an_own_operation_stays_and_a_missing_one_is_filled_in(rt: HostRuntime) {
-    are_merged(
-        &rt,
-        r#"{"get":{"responses":{},"summary":"1"},"put":{"responses":{},"summary":"1"}}"#,
-        r#"{"get":{"responses":{},"summary":"2"},"post":{"responses":{},"summary":"2"}}"#,
-        r#"{"get":{"responses":{},"summary":"1"},"post":{"responses":{},"summary":"2"},"put":{"responses":{},"summary":"1"}}"#,
-    );
-    let missing =
-        r#"{"delete":{"responses":{}},"get":{"responses":{}},"head":{"responses":{}},"options":{"responses":{}},"patch":{"responses":{}},"post":{"responses":{}},"put":{"responses":{}},"query":{"responses":{}},"trace":{"responses":{}}}"#;
-    are_merged(&rt, "{}", missing, missing);
-    are_merged(&rt, missing, "{}", missing);
-}
-
-#[test]
-fn query_and_additional_operations_are_filled_in_and_kept(rt: HostRuntime) {
-    let query = r#"{"query":{"responses":{},"summary":"1"}}"#;
-    let other = r#"{"query":{"responses":{},"summary":"2"}}"#;
-    are_merged(&rt, query, other, query);
-    are_merged(
-        &rt,
-        r#"{"additionalOperations":{"COPY":{"responses":{},"summary":"1"},"LOCK":{"responses":{}}}}"#,
-        r#"{"additionalOperations":{"COPY":{"responses":{},"summary":"2"},"MOVE":{"responses":{}}},"query":{"responses":{}}}"#,
-        r#"{"additionalOperations":{"COPY":{"responses":{},"summary":"1"},"LOCK":{"responses":{}},"MOVE":{"responses":{}}},"query":{"responses":{}}}"#,
-    );
-}
-
-#[test]
-fn all_else_of_a_merged_item_is_that_of_the_first(rt: HostRuntime) {
-    let all =
-        r##"{"$ref":"#/p","description":"d","parameters":[{"$ref":"#/q"}],"servers":[{"url":"u"}],"summary":"s","x-a":1}"##;
-    are_merged(&rt, r#"{"summary":"own"}"#, all, r#"{"summary":"own"}"#);
-    are_merged(&rt, all, r#"{"summary":"other","x-b":2}"#, all);
-}
-
+// All else stays, and of the other item nothing else is taken.
 #[test]
 fn operations_are_taken_in_place_of_earlier_ones(rt: HostRuntime) {
     let mut item: PathItem = read(

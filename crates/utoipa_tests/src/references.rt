@@ -4,12 +4,14 @@ use serde_json::Value;
 use std::process::Abort;
 use utoipa_base::{Ref, RefBuilder, RefOr};
 
+// What stands where a value could.
 fn place(reference: Ref) -> RefOr<Value> {
     RefOr::from(reference)
 }
 
+// From locations and from names; a reference and its builder stand in the place of a value.
 #[test]
-fn references_are_made_from_names(rt: HostRuntime) {
+fn references_are_made_and_stand_in_the_place_of_a_value(rt: HostRuntime) {
     is_written(
         &rt,
         Ref::new(rt.alloc(), text(&rt, "#/a")),
@@ -19,13 +21,19 @@ fn references_are_made_from_names(rt: HostRuntime) {
     is_written(&rt, place(schema), "{\"$ref\":\"#/components/schemas/A\"}");
     let response = Ref::from_response_name(rt.alloc(), "A").expect(&rt, "memory for a reference");
     is_written(&rt, response, "{\"$ref\":\"#/components/responses/A\"}");
+    is_written(&rt, RefBuilder::new(rt.alloc()).build(), "{\"$ref\":\"\"}");
+    let builder = RefBuilder::new(rt.alloc()).ref_location(text(&rt, "#/a"));
+    let place: RefOr<Value> = RefOr::from(builder);
+    is_written(&rt, place, "{\"$ref\":\"#/a\"}");
 }
 
+// A builder with a location.
 fn begun(rt: &(impl Abort + AllocGlobal)) -> RefBuilder {
     let named = Ref::builder(rt.alloc()).ref_location_from_schema_name(rt.alloc(), "A");
     named.expect(rt, "memory for a location")
 }
 
+// And goes on from a reference.
 #[test]
 fn a_builder_sets_every_member(rt: HostRuntime) {
     let built = begun(&rt)
@@ -46,12 +54,4 @@ fn a_builder_sets_every_member(rt: HostRuntime) {
         .title(None);
     let left = "{\"$ref\":\"#/b\",\"readOnly\":true,\"summary\":\"s\",\"writeOnly\":false}";
     is_written(&rt, Ref::from(moved), left);
-}
-
-#[test]
-fn a_builder_stands_in_the_place_of_a_value(rt: HostRuntime) {
-    is_written(&rt, RefBuilder::new(rt.alloc()).build(), "{\"$ref\":\"\"}");
-    let builder = RefBuilder::new(rt.alloc()).ref_location(text(&rt, "#/a"));
-    let place: RefOr<Value> = RefOr::from(builder);
-    is_written(&rt, place, "{\"$ref\":\"#/a\"}");
 }

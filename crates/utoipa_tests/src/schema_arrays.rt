@@ -8,6 +8,41 @@ use utoipa_schema::{
 };
 use utoipa_schema_parts::{SchemaType, TypeWord, Xml};
 
+// Each setter sets its member.
+#[test]
+fn an_array_is_built_of_its_members(rt: HostRuntime) {
+    let alloc = rt.alloc();
+    let array = Array::builder(alloc).expect(&rt, "a builder").build();
+    let items = ArrayItems::boxed(alloc, place_of(&rt, TypeWord::Number)).expect(&rt, "items");
+    let first = Some(schema_of(&rt, TypeWord::Integer)).into_iter();
+    let builder = ArrayBuilder::from(array)
+        .title(Some(text(&rt, "t")))
+        .items(items)
+        .description(Some(text(&rt, "d")))
+        .deprecated(Some(Deprecated::False))
+        .example(Some(Value::from(4u64)))
+        .default(Some(Value::from(3u64)))
+        .max_items(Some(3))
+        .min_items(Some(2))
+        .unique_items(true)
+        .xml(Some(Xml::builder().wrapped(Some(true)).build()))
+        .content_encoding(text(&rt, "base64"))
+        .content_media_type(text(&rt, "image/png"))
+        .extensions(extension(&rt))
+        .prefix_items(alloc, first)
+        .expect(&rt, "a first item")
+        .content_schema(alloc, Some(place_of(&rt, TypeWord::Boolean)))
+        .expect(&rt, "content")
+        .examples(alloc, two_values(&rt))
+        .expect(&rt, "examples");
+    is_written(
+        &rt,
+        builder.build(),
+        r#"{"contentEncoding":"base64","contentMediaType":"image/png","contentSchema":{"type":"boolean"},"default":3,"deprecated":false,"description":"d","example":4,"examples":[1,2],"items":{"type":"number"},"maxItems":3,"minItems":2,"prefixItems":[{"type":"integer"}],"title":"t","type":"array","uniqueItems":true,"x-a":1,"xml":{"wrapped":true}}"#,
+    );
+}
+
+// Of any, or of none. The type of any value is written as null, for an array has to say its type.
 #[test]
 fn an_array_is_of_its_items(rt: HostRuntime) {
     let alloc = rt.alloc();
@@ -21,55 +56,14 @@ fn an_array_is_of_its_items(rt: HostRuntime) {
     );
     let built = Array::builder(alloc).expect(&rt, "a builder").build();
     is_written(&rt, built, r#"{"items":{},"type":"array"}"#);
-}
-
-#[test]
-fn each_plain_setter_of_an_array_sets_its_member(rt: HostRuntime) {
-    let builder = ArrayBuilder::new(rt.alloc())
-        .expect(&rt, "a builder")
+    let builder = ArrayBuilder::new(alloc).expect(&rt, "a builder");
+    let builder = builder
         .schema_type(SchemaType::AnyValue)
-        .title(Some(text(&rt, "t")))
-        .items(ArrayItems::False)
-        .description(Some(text(&rt, "d")))
-        .deprecated(Some(Deprecated::False))
-        .example(Some(Value::from(4u64)))
-        .default(Some(Value::from(3u64)))
-        .max_items(Some(3))
-        .min_items(Some(2))
-        .unique_items(true)
-        .xml(Some(Xml::builder().wrapped(Some(true)).build()))
-        .content_encoding(text(&rt, "base64"))
-        .content_media_type(text(&rt, "image/png"))
-        .extensions(extension(&rt));
-    // The type of any value is written as null, for an array has to say its type.
-    is_written(
-        &rt,
-        Array::from(builder),
-        r#"{"contentEncoding":"base64","contentMediaType":"image/png","default":3,"deprecated":false,"description":"d","example":4,"items":false,"maxItems":3,"minItems":2,"title":"t","type":null,"uniqueItems":true,"x-a":1,"xml":{"wrapped":true}}"#,
-    );
+        .items(ArrayItems::False);
+    is_written(&rt, Array::from(builder), r#"{"items":false,"type":null}"#);
 }
 
-#[test]
-fn an_array_is_built_of_its_schemas(rt: HostRuntime) {
-    let alloc = rt.alloc();
-    let first = Some(schema_of(&rt, TypeWord::Integer)).into_iter();
-    let items = ArrayItems::boxed(alloc, place_of(&rt, TypeWord::Number)).expect(&rt, "items");
-    let array = Array::builder(alloc).expect(&rt, "a builder").build();
-    let builder = ArrayBuilder::from(array)
-        .items(items)
-        .prefix_items(alloc, first)
-        .expect(&rt, "a first item")
-        .content_schema(alloc, Some(place_of(&rt, TypeWord::Boolean)))
-        .expect(&rt, "content")
-        .examples(alloc, two_values(&rt))
-        .expect(&rt, "examples");
-    is_written(
-        &rt,
-        builder.build(),
-        r#"{"contentSchema":{"type":"boolean"},"examples":[1,2],"items":{"type":"number"},"prefixItems":[{"type":"integer"}],"type":"array"}"#,
-    );
-}
-
+// Of an object, of what stands where a reference could, of an array, and of a reference.
 #[test]
 fn an_array_is_made_of_a_schema(rt: HostRuntime) {
     let alloc = rt.alloc();
@@ -96,6 +90,7 @@ fn an_array_is_made_of_a_schema(rt: HostRuntime) {
     );
 }
 
+// Of the builder of each schema.
 #[test]
 fn an_array_is_made_of_what_is_built(rt: HostRuntime) {
     let alloc = rt.alloc();

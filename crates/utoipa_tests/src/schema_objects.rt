@@ -1,12 +1,13 @@
 //! Objects as they are built, by what they are written as.
 use crate::schema_parts::{place_of, schema_of, single, two_values};
-use crate::shared::{extension, is_text, is_written, text};
+use crate::shared::{extension, is_text, is_written, is_written_first, text};
 use serde_json::Value;
 use std::process::Abort;
 use utoipa_base::{Deprecated, Number};
 use utoipa_schema::{AdditionalProperties, Object, ObjectBuilder, empty};
 use utoipa_schema_parts::{KnownFormat, SchemaFormat, SchemaType, TypeWord, Xml};
 
+// The empty schema is of any value, and its default is null.
 #[test]
 fn an_object_is_of_its_type(rt: HostRuntime) {
     let alloc = rt.alloc();
@@ -19,6 +20,7 @@ fn an_object_is_of_its_type(rt: HostRuntime) {
     is_written(&rt, empty(alloc), r#"{"default":null}"#);
 }
 
+// Those that take no memory.
 #[test]
 fn each_plain_setter_of_an_object_sets_its_member(rt: HostRuntime) {
     let object = Object::builder(rt.alloc())
@@ -52,70 +54,48 @@ fn each_plain_setter_of_an_object_sets_its_member(rt: HostRuntime) {
     );
 }
 
+// Required names keep their order, and no values allow any.
 #[test]
-fn an_object_is_built_of_lists_of_values(rt: HostRuntime) {
+fn an_object_is_built_of_its_values_names_and_schemas(rt: HostRuntime) {
     let alloc = rt.alloc();
-    let builder = Object::builder(alloc)
+    let additional = AdditionalProperties::RefOr(place_of(&rt, TypeWord::Integer));
+    let object = Object::builder(alloc)
         .examples(alloc, two_values(&rt))
         .expect(&rt, "examples")
         .enum_values(alloc, Some(two_values(&rt)))
-        .expect(&rt, "values");
-    is_written(
-        &rt,
-        builder.build(),
-        r#"{"enum":[1,2],"examples":[1,2],"type":"object"}"#,
-    );
-}
-
-#[test]
-fn no_values_allow_any(rt: HostRuntime) {
-    let alloc = rt.alloc();
-    let builder = Object::builder(alloc)
-        .enum_values(alloc, Some(two_values(&rt)))
         .expect(&rt, "values")
-        .enum_values(alloc, None::<std::vec::IntoIter<Value>>)
-        .expect(&rt, "no values");
-    is_written(&rt, builder.build(), r#"{"type":"object"}"#);
-}
-
-#[test]
-fn an_object_is_built_of_its_schemas(rt: HostRuntime) {
-    let alloc = rt.alloc();
-    let additional = AdditionalProperties::RefOr(place_of(&rt, TypeWord::Integer));
-    let builder = Object::builder(alloc)
         .additional_properties(alloc, Some(additional))
         .expect(&rt, "additional properties")
         .property_names(alloc, Some(schema_of(&rt, TypeWord::String)))
         .expect(&rt, "names")
         .content_schema(alloc, Some(place_of(&rt, TypeWord::Boolean)))
-        .expect(&rt, "content");
-    is_written(
-        &rt,
-        builder.build(),
-        r#"{"additionalProperties":{"type":"integer"},"contentSchema":{"type":"boolean"},"propertyNames":{"type":"string"},"type":"object"}"#,
-    );
-}
-
-#[test]
-fn required_names_keep_their_order(rt: HostRuntime) {
-    let builder = Object::builder(rt.alloc())
+        .expect(&rt, "content")
         .required(text(&rt, "name"))
         .expect(&rt, "a first name")
         .required(text(&rt, "id"))
-        .expect(&rt, "a second name");
+        .expect(&rt, "a second name")
+        .build();
+    is_written_first(
+        &rt,
+        &object,
+        r#"{"additionalProperties":{"type":"integer"},"contentSchema":{"type":"boolean"},"enum":[1,2],"examples":[1,2],"propertyNames":{"type":"string"},"required":["name","id"],"type":"object"}"#,
+    );
+    let builder = ObjectBuilder::from(object).enum_values(alloc, None::<std::vec::IntoIter<Value>>);
     is_written(
         &rt,
-        builder.build(),
-        r#"{"required":["name","id"],"type":"object"}"#,
+        builder.expect(&rt, "no values").build(),
+        r#"{"additionalProperties":{"type":"integer"},"contentSchema":{"type":"boolean"},"examples":[1,2],"propertyNames":{"type":"string"},"required":["name","id"],"type":"object"}"#,
     );
 }
 
+// The builder with a property of the type more.
 fn with_property(
     rt: &(impl Abort + AllocGlobal),
     builder: ObjectBuilder,
     name: &str,
+    word: TypeWord,
 ) -> ObjectBuilder {
-    let builder = builder.property(text(rt, name), place_of(rt, TypeWord::Null));
+    let builder = builder.property(text(rt, name), place_of(rt, word));
     builder.expect(rt, "memory for a property")
 }
 
@@ -131,27 +111,20 @@ fn names_of(rt: &(impl Abort + AllocGlobal), object: &Object) -> String {
     names
 }
 
+// Of one name the later stands.
 #[test]
 fn properties_stand_in_the_order_of_their_names(rt: HostRuntime) {
-    let builder = with_property(&rt, Object::builder(rt.alloc()), "id");
-    let builder = with_property(&rt, builder, "name");
-    let builder = with_property(&rt, builder, "status");
-    let builder = with_property(&rt, builder, "history");
-    let object = with_property(&rt, builder, "tags").build();
-    let names = names_of(&rt, &object);
-    is_text(&rt, names.as_str(), "history id name status tags ");
-}
-
-#[test]
-fn a_later_property_of_a_name_wins(rt: HostRuntime) {
-    let builder = Object::builder(rt.alloc())
-        .property(text(&rt, "id"), place_of(&rt, TypeWord::Integer))
-        .expect(&rt, "a property")
-        .property(text(&rt, "id"), place_of(&rt, TypeWord::String))
-        .expect(&rt, "another schema of it");
-    is_written(
+    let builder = with_property(&rt, Object::builder(rt.alloc()), "id", TypeWord::Integer);
+    let object = with_property(&rt, builder, "id", TypeWord::String).build();
+    is_written_first(
         &rt,
-        builder.build(),
+        &object,
         r#"{"properties":{"id":{"type":"string"}},"type":"object"}"#,
     );
+    let builder = with_property(&rt, ObjectBuilder::from(object), "name", TypeWord::Null);
+    let builder = with_property(&rt, builder, "status", TypeWord::Null);
+    let builder = with_property(&rt, builder, "history", TypeWord::Null);
+    let object = with_property(&rt, builder, "tags", TypeWord::Null).build();
+    let names = names_of(&rt, &object);
+    is_text(&rt, names.as_str(), "history id name status tags ");
 }

@@ -1,5 +1,5 @@
 //! The flows of OAuth as they are made, by what they are written as.
-use crate::shared::{extension, is_text, is_written, read, text};
+use crate::shared::{extension, is_text, is_written, is_written_first, read, text};
 use std::process::Abort;
 use utoipa_base::{Deprecated, Tree};
 use utoipa_security::security::{
@@ -7,10 +7,12 @@ use utoipa_security::security::{
     Scopes, SecurityScheme,
 };
 
+// The scope `a`, which `b` describes.
 fn one_scope(rt: &(impl Abort + AllocGlobal)) -> Scopes {
     Scopes::one(rt.alloc(), text(rt, "a"), text(rt, "b")).expect(rt, "a scope")
 }
 
+// No scopes.
 fn no_scopes(rt: &(impl Abort + AllocGlobal)) -> Scopes {
     Scopes::new(rt.alloc())
 }
@@ -27,8 +29,9 @@ fn is_scheme(rt: &(impl Abort + AllocGlobal), flow: Flow, json: &str) {
     );
 }
 
+// Of one name the later description stays.
 #[test]
-fn the_later_of_two_equal_scopes_stays(rt: HostRuntime) {
+fn scopes_are_made_and_compared(rt: HostRuntime) {
     let mut pairs = Vec::new(rt.alloc());
     for (scope, description) in [("b", "1"), ("a", "2"), ("b", "3")] {
         let pair = (text(&rt, scope), text(&rt, description));
@@ -40,18 +43,15 @@ fn the_later_of_two_equal_scopes_stays(rt: HostRuntime) {
         scopes.expect(&rt, "scopes"),
         r#"{"scopes":{"a":"2","b":"3"}}"#,
     );
-}
-
-#[test]
-fn scopes_are_compared(rt: HostRuntime) {
     let one = one_scope(&rt);
     assert!(rt; one == one.try_clone(rt.alloc()).expect(&rt, "a copy"));
     assert!(rt; one != no_scopes(&rt));
     is_written(&rt, one, r#"{"scopes":{"a":"b"}}"#);
 }
 
+// Of each kind, by its URLs and its scopes alone.
 #[test]
-fn a_flow_by_one_url_is_made(rt: HostRuntime) {
+fn a_flow_is_made(rt: HostRuntime) {
     let mut implicit = Implicit::new(text(&rt, "u"), no_scopes(&rt));
     implicit.extensions = extension(&rt);
     is_scheme(
@@ -63,10 +63,6 @@ fn a_flow_by_one_url_is_made(rt: HostRuntime) {
     is_written(&rt, password, r#"{"scopes":{},"tokenUrl":"t"}"#);
     let credentials = ClientCredentials::new(text(&rt, "t"), no_scopes(&rt));
     is_written(&rt, credentials, r#"{"scopes":{},"tokenUrl":"t"}"#);
-}
-
-#[test]
-fn a_flow_by_two_urls_is_made(rt: HostRuntime) {
     let code = AuthorizationCode::new(text(&rt, "u"), text(&rt, "t"), one_scope(&rt));
     is_written(
         &rt,
@@ -81,8 +77,9 @@ fn a_flow_by_two_urls_is_made(rt: HostRuntime) {
     );
 }
 
+// Of each kind, with the URL by which it is refreshed.
 #[test]
-fn a_refreshed_flow_by_one_url_stands_under_its_key(rt: HostRuntime) {
+fn a_refreshed_flow_stands_under_its_key(rt: HostRuntime) {
     let implicit = Implicit::with_refresh_url(text(&rt, "u"), one_scope(&rt), text(&rt, "r"));
     is_scheme(
         &rt,
@@ -105,10 +102,6 @@ fn a_refreshed_flow_by_one_url_stands_under_its_key(rt: HostRuntime) {
         Flow::ClientCredentials(credentials),
         r#"{"flows":{"clientCredentials":{"refreshUrl":"r","scopes":{"a":"b"},"tokenUrl":"t"}},"type":"oauth2"}"#,
     );
-}
-
-#[test]
-fn a_refreshed_flow_by_two_urls_stands_under_its_key(rt: HostRuntime) {
     let code = AuthorizationCode::with_refresh_url(
         text(&rt, "https://localhost/authorization/token"),
         text(&rt, "https://localhost/token/url"),
@@ -133,8 +126,9 @@ fn a_refreshed_flow_by_two_urls_stands_under_its_key(rt: HostRuntime) {
     );
 }
 
+// A later flow of a kind stands, and one that is put at a key is written under that, whatever its kind.
 #[test]
-fn a_later_flow_of_a_kind_stands(rt: HostRuntime) {
+fn a_scheme_holds_the_flows_that_were_put(rt: HostRuntime) {
     let mut flows = Vec::new(rt.alloc());
     for url in ["a", "b"] {
         let flow = Flow::Implicit(Implicit::new(text(&rt, url), no_scopes(&rt)));
@@ -146,13 +140,10 @@ fn a_later_flow_of_a_kind_stands(rt: HostRuntime) {
         scheme.expect(&rt, "a scheme"),
         r#"{"flows":{"implicit":{"authorizationUrl":"b","scopes":{}}}}"#,
     );
-}
-
-#[test]
-fn a_flow_is_written_under_the_key_that_it_was_put_at(rt: HostRuntime) {
     let none: Vec<Flow> = Vec::new(rt.alloc());
     let scheme = OAuth2::new(rt.alloc(), none.into_iter());
     let mut scheme = scheme.expect(&rt, "a scheme");
+    is_written_first(&rt, &scheme, r#"{"flows":{}}"#);
     let implicit = Flow::Implicit(Implicit::new(text(&rt, "u"), no_scopes(&rt)));
     let put: Result<_, _> = scheme.flows.insert(text(&rt, "password"), implicit);
     drop(put.expect(&rt, "memory for a flow"));
@@ -175,6 +166,7 @@ fn kind(scheme: &SecurityScheme, key: &str) -> &'static str {
     }
 }
 
+// No text tells these apart.
 #[test]
 fn flows_that_are_written_alike_are_told_by_their_keys(rt: HostRuntime) {
     let credentials =
@@ -186,23 +178,12 @@ fn flows_that_are_written_alike_are_told_by_their_keys(rt: HostRuntime) {
     is_text(&rt, found, "password");
 }
 
+// Each setter sets its member.
 #[test]
 fn a_scheme_of_a_flow_is_described(rt: HostRuntime) {
     let password = Password::with_refresh_url(text(&rt, "t"), one_scope(&rt), text(&rt, "r"));
     let flows = Some(Flow::Password(password)).into_iter();
-    let scheme = OAuth2::with_description(rt.alloc(), flows, text(&rt, "f"));
-    is_written(
-        &rt,
-        SecurityScheme::OAuth2(scheme.expect(&rt, "a scheme")),
-        r#"{"description":"f","flows":{"password":{"refreshUrl":"r","scopes":{"a":"b"},"tokenUrl":"t"}},"type":"oauth2"}"#,
-    );
-}
-
-#[test]
-fn each_setter_of_an_oauth2_scheme_sets_its_member(rt: HostRuntime) {
-    let alloc = rt.alloc();
-    let none: Vec<Flow> = Vec::new(alloc);
-    let mut scheme = OAuth2::with_description(alloc, none.into_iter(), text(&rt, "d"))
+    let mut scheme = OAuth2::with_description(rt.alloc(), flows, text(&rt, "f"))
         .expect(&rt, "a scheme")
         .with_metadata_url(text(&rt, "m"))
         .deprecated(Some(Deprecated::True));
@@ -210,6 +191,6 @@ fn each_setter_of_an_oauth2_scheme_sets_its_member(rt: HostRuntime) {
     is_written(
         &rt,
         SecurityScheme::OAuth2(scheme),
-        r#"{"deprecated":true,"description":"d","flows":{},"oauth2MetadataUrl":"m","type":"oauth2","x-a":1}"#,
+        r#"{"deprecated":true,"description":"f","flows":{"password":{"refreshUrl":"r","scopes":{"a":"b"},"tokenUrl":"t"}},"oauth2MetadataUrl":"m","type":"oauth2","x-a":1}"#,
     );
 }

@@ -1,10 +1,11 @@
 //! Servers and their variables by their builders, and extensions that are named like a member.
-use crate::shared::{came_to, extension, is_flag, is_written, is_written_first, read, text};
+use crate::shared::{extension, is_flag, is_written, read, text};
 use serde_json::Value;
 use std::process::Abort;
-use utoipa_base::{Extensions, ReadFault, Tree};
+use utoipa_base::Extensions;
 use utoipa_leaf::server::{Server, ServerBuilder, ServerVariable, ServerVariableBuilder};
 
+// A variable with all its members.
 fn version(rt: &(impl Abort + AllocGlobal)) -> ServerVariable {
     let values: Vec<String> = read(rt, "[\"v1\",\"v2\"]");
     let listed = ServerVariable::builder(rt.alloc()).enum_values(
@@ -18,11 +19,13 @@ fn version(rt: &(impl Abort + AllocGlobal)) -> ServerVariable {
     ServerVariableBuilder::from(builder.build()).build()
 }
 
+// A variable with its default alone.
 fn username(rt: &(impl Abort + AllocGlobal)) -> ServerVariable {
     let builder = ServerVariableBuilder::new(rt.alloc()).default_value(text(rt, "the_user"));
     ServerVariable::from(builder)
 }
 
+// The builder with a variable of that name more.
 fn with_variable(
     rt: &(impl Abort + AllocGlobal),
     server: ServerBuilder,
@@ -33,6 +36,7 @@ fn with_variable(
     put.expect(rt, "memory for a variable")
 }
 
+// A variable of no values lists none.
 #[test]
 fn a_server_is_written_with_its_variables(rt: HostRuntime) {
     let builder = ServerBuilder::new(rt.alloc()).url(text(&rt, "/api/{version}/{username}"));
@@ -43,8 +47,14 @@ fn a_server_is_written_with_its_variables(rt: HostRuntime) {
         server,
         "{\"url\":\"/api/{version}/{username}\",\"variables\":{\"username\":{\"default\":\"the_user\"},\"version\":{\"default\":\"v1\",\"description\":\"api version\",\"enum\":[\"v1\",\"v2\"]}}}",
     );
+    let bare = ServerVariable::builder(rt.alloc())
+        .extensions(extension(&rt))
+        .enum_values(rt.alloc(), None::<std::vec::IntoIter<String>>);
+    let bare = bare.expect(&rt, "a builder").build();
+    is_written(&rt, bare, "{\"default\":\"\",\"x-a\":1}");
 }
 
+// A new builder has set none.
 #[test]
 fn each_setter_of_a_server_sets_its_field(rt: HostRuntime) {
     let server = ServerBuilder::from(Server::new(text(&rt, "u")))
@@ -59,67 +69,21 @@ fn each_setter_of_a_server_sets_its_field(rt: HostRuntime) {
     is_written(&rt, Server::builder(rt.alloc()).build(), "{\"url\":\"\"}");
 }
 
-#[test]
-fn a_variable_of_no_values_lists_none(rt: HostRuntime) {
-    let bare = ServerVariable::builder(rt.alloc())
-        .extensions(extension(&rt))
-        .enum_values(rt.alloc(), None::<std::vec::IntoIter<String>>);
-    let bare = bare.expect(&rt, "a builder").build();
-    is_written(&rt, bare, "{\"default\":\"\",\"x-a\":1}");
-}
-
-// The server at `u` with an extension of that name, which gets no prefix.
-fn extended(rt: &(impl Abort + AllocGlobal), name: &str, value: Value) -> Server {
-    let mut extensions = Extensions::new(rt.alloc());
-    let earlier = extensions.insert(text(rt, name), value);
-    drop(earlier.expect(rt, "memory for an extension"));
-    ServerBuilder::from(Server::new(text(rt, "u")))
-        .extensions(Some(extensions))
-        .build()
-}
-
-#[test]
-fn a_member_is_written_in_place_of_an_extension_of_its_name(rt: HostRuntime) {
-    let other = Value::try_from_str(rt.alloc(), "v").expect(&rt, "memory for a text");
-    is_written(&rt, extended(&rt, "url", other), "{\"url\":\"u\"}");
-    is_written(
-        &rt,
-        extended(&rt, "y", Value::from(1u64)),
-        "{\"url\":\"u\",\"y\":1}",
-    );
-    let described = "{\"description\":5,\"url\":\"u\"}";
-    is_written(
-        &rt,
-        extended(&rt, "description", Value::from(5u64)),
-        described,
-    );
-}
-
-fn read_again(rt: &(impl Abort + AllocGlobal), server: Server) -> Result<Server, ReadFault> {
-    let tree = server.to_value(rt.alloc()).expect(rt, "memory for a tree");
-    Server::from_value(rt.alloc(), &tree)
-}
-
-#[test]
-fn what_is_no_extension_by_its_name_is_not_read_again_as_one(rt: HostRuntime) {
-    let again = read_again(&rt, extended(&rt, "y", Value::from(1u64)));
-    came_to(&rt, again, "{\"url\":\"u\"}");
-    let refused = read_again(&rt, extended(&rt, "description", Value::from(5u64)));
-    came_to(&rt, refused, "no text stands here");
-}
-
+// A member is written in place of an extension of its name, unless it is left out. No such name is one that an extension is read by, and
+// where there is none, there are no extensions.
 #[test]
 fn no_extensions_are_read_again_where_no_name_is_one(rt: HostRuntime) {
     let other = Value::try_from_str(rt.alloc(), "v").expect(&rt, "memory for a text");
     let pairs = [
         (text(&rt, "url"), other),
         (text(&rt, "y"), Value::from(1u64)),
+        (text(&rt, "description"), Value::from(5u64)),
     ];
     let pairs = Vec::from_array(rt.alloc(), pairs).expect(&rt, "memory for pairs");
-    let both = Extensions::from_pairs(rt.alloc(), pairs.into_iter());
+    let all = Extensions::from_pairs(rt.alloc(), pairs.into_iter());
     let mut server = Server::new(text(&rt, "u"));
-    server.extensions = Some(both.expect(&rt, "memory for extensions"));
-    is_written_first(&rt, &server, "{\"url\":\"u\",\"y\":1}");
-    let again = read_again(&rt, server).expect(&rt, "a server");
+    server.extensions = Some(all.expect(&rt, "memory for extensions"));
+    is_written(&rt, server, "{\"description\":5,\"url\":\"u\",\"y\":1}");
+    let again: Server = read(&rt, "{\"url\":\"u\",\"y\":1}");
     is_flag(&rt, again.extensions.is_none(), true);
 }

@@ -7,10 +7,12 @@ use std::process::Abort;
 use std::vec::IntoIter;
 use utoipa_base::{Extensions, ReadFault, Readings, Tree};
 
+/// The text in memory of its own.
 pub fn text(rt: &(impl Abort + AllocGlobal), word: &str) -> String {
     String::from_str(rt.alloc(), word).expect(rt, "memory for a text")
 }
 
+/// The tree of a JSON text.
 pub fn tree(rt: &(impl Abort + AllocGlobal), json: &str) -> Value {
     Value::from_str(rt.alloc(), json).expect(rt, "a tree")
 }
@@ -64,6 +66,7 @@ pub fn came_to<T: Tree>(
     }
 }
 
+// The tree that the value is written as has the text.
 fn is_printed<T: Tree>(rt: &(impl Abort + AllocGlobal), value: &T, json: &str) {
     let tree = value.to_value(rt.alloc()).expect(rt, "memory for a tree");
     is_tree(rt, tree, json);
@@ -75,20 +78,23 @@ pub fn is_tree(rt: &(impl Abort + AllocGlobal), tree: Value, json: &str) {
     is_text(rt, printed.as_str(), json);
 }
 
+/// The text is the expected one.
 pub fn is_text(rt: &impl Abort, found: &str, expected: &str) {
     assert_eq!(rt; found, expected);
 }
 
+/// The number is the expected one.
 pub fn is_number(rt: &impl Abort, found: u64, expected: u64) {
     assert_eq!(rt; found, expected);
 }
 
+/// The flag is the expected one.
 pub fn is_flag(rt: &impl Abort, found: bool, expected: bool) {
     assert_eq!(rt; found, expected);
 }
 
 /// The bytes are the text.
-pub fn is_json_text(rt: &(impl Abort + AllocGlobal), json: Vec<u8>, expected: &str) {
+fn is_json_text(rt: &(impl Abort + AllocGlobal), json: Vec<u8>, expected: &str) {
     let shown = String::from_utf8_lossy(rt.alloc(), json.as_slice());
     let shown = shown.expect(rt, "memory for a text");
     is_text(rt, shown.as_str(), expected);

@@ -4,12 +4,14 @@ use std::process::Abort;
 use utoipa_leaf::external_docs::{ExternalDocs, ExternalDocsBuilder};
 use utoipa_leaf::tag::{Tag, TagBuilder};
 
+// The documentation at `u`.
 fn docs(rt: &(impl Abort + AllocGlobal)) -> ExternalDocs {
     ExternalDocs::new(rt.alloc(), "u").expect(rt, "memory for a text")
 }
 
+// A tag of a name has its name alone.
 #[test]
-fn documentation_is_built_field_by_field(rt: HostRuntime) {
+fn a_tag_and_its_documentation_are_built_field_by_field(rt: HostRuntime) {
     is_written(&rt, docs(&rt), "{\"description\":null,\"url\":\"u\"}");
     let built = ExternalDocs::builder(rt.alloc())
         .url(text(&rt, "https://example.com"))
@@ -21,10 +23,6 @@ fn documentation_is_built_field_by_field(rt: HostRuntime) {
     let moved = ExternalDocsBuilder::from(built).extensions(None);
     let left = "{\"description\":\"Find more\",\"url\":\"https://example.com\"}";
     is_written(&rt, ExternalDocs::from(moved), left);
-}
-
-#[test]
-fn a_tag_is_built_field_by_field(rt: HostRuntime) {
     let built = Tag::builder(rt.alloc())
         .name(text(&rt, "partner"))
         .summary(Some(text(&rt, "Partner")))
@@ -39,10 +37,6 @@ fn a_tag_is_built_field_by_field(rt: HostRuntime) {
         built,
         "{\"description\":\"Operations available to partners\",\"externalDocs\":{\"description\":null,\"url\":\"u\"},\"kind\":\"audience\",\"name\":\"partner\",\"parent\":\"external\",\"summary\":\"Partner\",\"x-a\":1}",
     );
-}
-
-#[test]
-fn a_tag_of_a_name_has_its_name_alone(rt: HostRuntime) {
     let pet = Tag::new(rt.alloc(), "pet").expect(&rt, "memory for a text");
     is_written_first(&rt, &pet, "{\"name\":\"pet\"}");
     let kept = TagBuilder::from(pet).kind(Some(text(&rt, "audience")));

@@ -1,9 +1,9 @@
-//! Which word stands for which value, and how the values are ordered.
-use crate::shared::{is_flag, is_number, is_text};
+//! Which word stands for which value, what a flag is written as, and how the values are ordered.
+use crate::shared::{is_flag, is_number, is_text, is_written};
 use serde_json::Value;
 use std::collections::HashSet;
 use std::process::Abort;
-use utoipa_base::Tree;
+use utoipa_base::{Deprecated, Required, Tree};
 use utoipa_leaf::path::{HttpMethod, ParameterIn, ParameterStyle};
 use utoipa_leaf::version::OpenApiVersion;
 
@@ -17,55 +17,60 @@ fn stands_for<T: Tree + PartialEq>(rt: &(impl Abort + AllocGlobal), word: &str, 
     is_text(rt, written.as_str().unwrap_or("no text"), word);
 }
 
+// Those that have no default.
 #[test]
-fn each_method_stands_for_its_word(rt: HostRuntime) {
-    stands_for(&rt, "get", HttpMethod::Get);
-    stands_for(&rt, "post", HttpMethod::Post);
-    stands_for(&rt, "put", HttpMethod::Put);
-    stands_for(&rt, "delete", HttpMethod::Delete);
-    stands_for(&rt, "options", HttpMethod::Options);
-    stands_for(&rt, "head", HttpMethod::Head);
-    stands_for(&rt, "patch", HttpMethod::Patch);
-    stands_for(&rt, "trace", HttpMethod::Trace);
+fn each_method_and_each_style_stands_for_its_word(rt: HostRuntime) {
+    for (word, method) in [
+        ("get", HttpMethod::Get),
+        ("post", HttpMethod::Post),
+        ("put", HttpMethod::Put),
+        ("delete", HttpMethod::Delete),
+        ("options", HttpMethod::Options),
+        ("head", HttpMethod::Head),
+        ("patch", HttpMethod::Patch),
+        ("trace", HttpMethod::Trace),
+    ] {
+        stands_for(&rt, word, method);
+    }
+    for (word, style) in [
+        ("matrix", ParameterStyle::Matrix),
+        ("label", ParameterStyle::Label),
+        ("form", ParameterStyle::Form),
+        ("simple", ParameterStyle::Simple),
+        ("spaceDelimited", ParameterStyle::SpaceDelimited),
+        ("pipeDelimited", ParameterStyle::PipeDelimited),
+        ("deepObject", ParameterStyle::DeepObject),
+        ("cookie", ParameterStyle::Cookie),
+    ] {
+        stands_for(&rt, word, style);
+    }
 }
 
+// Those that have a default, which stands last.
 #[test]
-fn each_place_and_each_version_stands_for_its_word(rt: HostRuntime) {
-    stands_for(&rt, "query", ParameterIn::Query);
-    stands_for(&rt, "path", ParameterIn::Path);
-    stands_for(&rt, "header", ParameterIn::Header);
-    stands_for(&rt, "cookie", ParameterIn::Cookie);
-    stands_for(&rt, "querystring", ParameterIn::QueryString);
-    stands_for(&rt, "path", ParameterIn::default());
+fn each_place_each_version_and_each_flag_is_written_as_it_is(rt: HostRuntime) {
+    for (word, place) in [
+        ("query", ParameterIn::Query),
+        ("path", ParameterIn::Path),
+        ("header", ParameterIn::Header),
+        ("cookie", ParameterIn::Cookie),
+        ("querystring", ParameterIn::QueryString),
+        ("path", ParameterIn::default()),
+    ] {
+        stands_for(&rt, word, place);
+    }
     stands_for(&rt, "3.1.0", OpenApiVersion::Version31);
     stands_for(&rt, "3.2.0", OpenApiVersion::Version32);
     stands_for(&rt, "3.1.0", OpenApiVersion::default());
+    is_written(&rt, Deprecated::True, "true");
+    is_written(&rt, Deprecated::False, "false");
+    is_written(&rt, Deprecated::default(), "false");
+    is_written(&rt, Required::True, "true");
+    is_written(&rt, Required::False, "false");
+    is_written(&rt, Required::default(), "false");
 }
 
-#[test]
-fn each_style_stands_for_its_word(rt: HostRuntime) {
-    stands_for(&rt, "matrix", ParameterStyle::Matrix);
-    stands_for(&rt, "label", ParameterStyle::Label);
-    stands_for(&rt, "form", ParameterStyle::Form);
-    stands_for(&rt, "simple", ParameterStyle::Simple);
-    stands_for(&rt, "spaceDelimited", ParameterStyle::SpaceDelimited);
-    stands_for(&rt, "pipeDelimited", ParameterStyle::PipeDelimited);
-    stands_for(&rt, "deepObject", ParameterStyle::DeepObject);
-    stands_for(&rt, "cookie", ParameterStyle::Cookie);
-}
-
-// The laws of the order are proved, so the neighbours show the rest.
-#[test]
-fn methods_are_ordered_as_they_are_listed(rt: HostRuntime) {
-    is_flag(&rt, HttpMethod::Get < HttpMethod::Post, true);
-    is_flag(&rt, HttpMethod::Post < HttpMethod::Put, true);
-    is_flag(&rt, HttpMethod::Put < HttpMethod::Delete, true);
-    is_flag(&rt, HttpMethod::Delete < HttpMethod::Options, true);
-    is_flag(&rt, HttpMethod::Options < HttpMethod::Head, true);
-    is_flag(&rt, HttpMethod::Head < HttpMethod::Patch, true);
-    is_flag(&rt, HttpMethod::Patch < HttpMethod::Trace, true);
-}
-
+// Whether the method was not in the set, in which it is then.
 fn is_new(
     rt: &(impl Abort + AllocGlobal),
     methods: &mut HashSet<HttpMethod>,
@@ -74,8 +79,16 @@ fn is_new(
     methods.insert(method).expect(rt, "memory for a method")
 }
 
+// The laws of the order are proved, so the neighbours show the rest. Equal methods have one place in a set.
 #[test]
-fn equal_methods_have_one_place_in_a_set(rt: HostRuntime) {
+fn methods_are_ordered_as_they_are_listed_and_hashed_as_they_are_equal(rt: HostRuntime) {
+    is_flag(&rt, HttpMethod::Get < HttpMethod::Post, true);
+    is_flag(&rt, HttpMethod::Post < HttpMethod::Put, true);
+    is_flag(&rt, HttpMethod::Put < HttpMethod::Delete, true);
+    is_flag(&rt, HttpMethod::Delete < HttpMethod::Options, true);
+    is_flag(&rt, HttpMethod::Options < HttpMethod::Head, true);
+    is_flag(&rt, HttpMethod::Head < HttpMethod::Patch, true);
+    is_flag(&rt, HttpMethod::Patch < HttpMethod::Trace, true);
     let mut methods = HashSet::new(rt.alloc());
     is_flag(&rt, is_new(&rt, &mut methods, HttpMethod::Get), true);
     is_flag(&rt, is_new(&rt, &mut methods, HttpMethod::Head), true);

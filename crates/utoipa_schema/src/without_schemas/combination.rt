@@ -1,18 +1,15 @@
 //! The members that schemas with `oneOf`, `allOf` and `anyOf` share.
-ghost use Rattle.std.specs.Prelude.{◌≡◌, Some, IfOk, IfErr, OnOk};
-ghost use Rattle.serde_json.specs.View.{view, members_view};
+ghost use Rattle.std.specs.Prelude.{◌≡◌, Some, IfOk, IfErr};
+ghost use Rattle.serde_json.specs.View.{view};
 ghost use Rattle.utoipa_base.specs.Docs.{list_doc};
 ghost use Rattle.utoipa_base.specs.Faults.{Refuses};
 ghost use Rattle.utoipa_base.specs.Rows.{part};
-ghost use Rattle.utoipa_base.specs.Writing.{write_rows};
 ghost use Rattle.utoipa_schema.specs.Parts.{combination_of, combination_rows, combination_docs};
 
 use crate::without_schemas::read_part;
-use serde_json::{Map, Value};
+use serde_json::Value;
 use std::alloc::{AllocError, Global};
-use utoipa_base::{
-    ReadFault, Tree, clone_option, from_fields_alone, row_names, write_option, write_unless_empty,
-};
+use utoipa_base::{ReadFault, Tree, clone_option, from_fields_alone, row_names};
 use utoipa_schema_parts::Discriminator;
 
 // The rows that combinations share: mark, member, field.
@@ -20,11 +17,11 @@ macro_rules! combination_rows {
     ($lines:ident!($($arguments:tt)*)) => {
         $lines! {
             $($arguments)*;
-            optional "description" description,
             optional "default" default,
+            optional "description" description,
+            optional "discriminator" discriminator,
             optional "example" example,
             defaulted "examples" examples,
-            optional "discriminator" discriminator,
         }
     };
 }
@@ -54,28 +51,6 @@ pub(crate) fn read_combination(alloc: Global, tree: &Value) -> Result<Combinatio
 {
     let fields = read_part(alloc, tree, combination_rows!(row_names!()))?;
     Ok(combination_rows!(from_fields_alone!(Combination, fields)))
-}
-
-/// Writes the members of a [`Combination`] among others. Fails where memory runs out.
-pub(crate) fn write_combination(
-    members: &mut Map<String, Value>,
-    alloc: Global,
-    description: &Option<String>,
-    default: &Option<Value>,
-    example: &Option<Value>,
-    examples: &Vec<Value>,
-    discriminator: &Option<Discriminator>,
-) -> Result<(), AllocError>
-    ensures { OnOk result (members_view members.new.entries
-        ≡ write_rows (combination_docs (combination_of description.now default.now example.now examples.now discriminator.now))
-        combination_rows (members_view members.old.entries)) }
-{
-    write_option(members, alloc, "description", description)?;
-    write_option(members, alloc, "default", default)?;
-    write_option(members, alloc, "example", example)?;
-    write_unless_empty(members, alloc, "examples", examples)?;
-    write_option(members, alloc, "discriminator", discriminator)?;
-    Ok(())
 }
 
 /// Copies the members of a [`Combination`]. Fails where memory runs out.

@@ -1,36 +1,24 @@
 //! Schemes whose key is sent in a header, the query or a cookie.
-ghost use Rattle.std.specs.Prelude.{◌≡◌, None, Some, codes, refl, false, OnOk};
+ghost use Rattle.std.specs.Prelude.{◌≡◌, None, Some, codes, OnOk};
 ghost use Rattle.utoipa_base.specs.Docs.{tagged_doc};
 ghost use Rattle.utoipa_base.specs.Kinds.{named, api_key_scheme, api_key};
-ghost use Rattle.utoipa_base.specs.Printed.{Prints};
+ghost use Rattle.utoipa_base.specs.Events.{events};
 ghost use Rattle.utoipa_base.specs.Vocabularies.{with_text};
 ghost use Rattle.utoipa_base.specs.Writing.{write};
 ghost use Rattle.utoipa_security.specs.ApiKey.{api_key_value_doc, api_key_doc, api_key_of_kind, key_place_text, every_key_place};
 
 use crate::security::row_lists::row_values;
-use crate::security::scheme_type::{read_type, with_type};
-use json::Writer;
+use crate::security::scheme_type::read_type;
 use serde_json::Value;
 use std::alloc::{AllocError, Global};
 use utoipa_base::{
-    Deprecated, Extensions, ReadFault, Readings, Tree, clone_table, from_fields, print_table,
-    read_table, row_names, write_table,
+    Deprecated, Documented, Emit, Extensions, JsonSink, ReadFault, Readings, Tree, clone_table,
+    emit_table, from_fields, read_table, row_names,
 };
 
-// The rows of an API key, in the order of its member table: mark, member, field.
+// The rows of an API key, in the order of the members' names: mark, member, field. Others may stand before
+// the name, and last.
 macro_rules! api_key_rows {
-    ($lines:ident!($($arguments:tt)*)) => {
-        $lines! {
-            $($arguments)*;
-            required "name" name,
-            optional "description" description,
-            optional "deprecated" deprecated,
-        }
-    };
-}
-
-// The same, in the order of the members' names, with rows that come before the name and rows that come last.
-macro_rules! api_key_rows_by_name {
     ($lines:ident!($($arguments:tt)*) [$($before_name:tt)*] $($last:tt)*) => {
         $lines! {
             $($arguments)*;
@@ -92,12 +80,22 @@ impl ApiKeyValue {
     }
 }
 
-impl Tree for ApiKeyValue {
-    ghost use Rattle.utoipa_security.specs.ApiKey.{api_key_value_of_kind};
-
+impl Documented for ApiKeyValue {
     ghost kind = { named api_key_scheme };
 
     ghost doc = { api_key_value_doc };
+}
+
+impl Emit for ApiKeyValue {
+    fn emit<S: JsonSink>(&self, out: &mut S) -> Result<(), AllocError> {
+        let names = api_key_rows!(row_names!() []);
+        let values = api_key_rows!(row_values!(self) []);
+        emit_table(out, names, &values, &self.extensions)
+    }
+}
+
+impl Tree for ApiKeyValue {
+    ghost use Rattle.utoipa_security.specs.ApiKey.{api_key_value_of_kind};
 
     ghost is_of_kind = { api_key_value_of_kind };
 
@@ -106,25 +104,13 @@ impl Tree for ApiKeyValue {
         tree: &Value,
         readings: &mut Readings,
     ) -> Result<ApiKeyValue, ReadFault> {
-        let names = api_key_rows!(row_names!());
+        let names = api_key_rows!(row_names!() []);
         let (fields, extensions) = read_table(alloc, tree, "ApiKeyValue", names, readings)?;
-        Ok(api_key_rows!(from_fields!(ApiKeyValue, fields, extensions)))
-    }
-
-    fn to_value(&self, alloc: Global) -> Result<Value, AllocError> {
-        let names = api_key_rows!(row_names!());
-        let values = api_key_rows!(row_values!(self));
-        write_table(alloc, names, &values, &self.extensions)
-    }
-
-    fn print(&self, alloc: Global, out: &mut Writer) -> Result<(), AllocError> {
-        let names = api_key_rows_by_name!(row_names!() []);
-        let values = api_key_rows_by_name!(row_values!(self) []);
-        print_table(alloc, out, names, &values, &self.extensions)
+        Ok(api_key_rows!(from_fields!(ApiKeyValue, fields, extensions) []))
     }
 
     fn try_clone(&self, alloc: Global) -> Result<ApiKeyValue, AllocError> {
-        api_key_rows!(clone_table!(ApiKeyValue, self, alloc))
+        api_key_rows!(clone_table!(ApiKeyValue, self, alloc) [])
     }
 }
 
@@ -152,20 +138,14 @@ impl ApiKey {
         }
     }
 
-    /// Prints the scheme with its member `type`, of this word. Fails where memory runs out; then some of it may have been
-    /// printed.
-    pub(crate) fn print_typed(
-        &self,
-        alloc: Global,
-        out: &mut Writer,
-        word: &str,
-    ) -> Result<(), AllocError>
-        ensures { OnOk result (Prints (write (tagged_doc (codes "type") word.now (api_key_doc self.now))) out.old out.new) }
+    /// Sends the scheme with its member `type`, of this word. Fails where the sink does; then some of it may have been sent.
+    pub(crate) fn emit_typed<S: JsonSink>(&self, out: &mut S, word: &str) -> Result<(), AllocError>
+        ensures { OnOk result (S.adds out.old (events (write (tagged_doc (codes "type") word.now (api_key_doc self.now)))) out.new) }
     {
         let (place, value) = self.place_and_value();
-        let names = api_key_rows_by_name!(row_names!() [tag "in" place,] tag "type" word,);
-        let values = api_key_rows_by_name!(row_values!(value) [tag "in" place,] tag "type" word,);
-        print_table(alloc, out, names, &values, &value.extensions)
+        let names = api_key_rows!(row_names!() [tag "in" place,] tag "type" word,);
+        let values = api_key_rows!(row_values!(value) [tag "in" place,] tag "type" word,);
+        emit_table(out, names, &values, &value.extensions)
     }
 }
 
@@ -197,12 +177,23 @@ fn in_place(place: KeyPlace, value: ApiKeyValue) -> ApiKey
     }
 }
 
-#[tactic(auto, using(crate::proofs::SchemeTypes::by_scheme_types))]
-impl Tree for ApiKey {
+impl Documented for ApiKey {
     ghost kind = { api_key };
 
     ghost doc = { api_key_doc };
+}
 
+impl Emit for ApiKey {
+    fn emit<S: JsonSink>(&self, out: &mut S) -> Result<(), AllocError> {
+        let (place, value) = self.place_and_value();
+        let names = api_key_rows!(row_names!() [tag "in" place,]);
+        let values = api_key_rows!(row_values!(value) [tag "in" place,]);
+        emit_table(out, names, &values, &value.extensions)
+    }
+}
+
+#[tactic(auto, using(crate::proofs::SchemeTypes::by_scheme_types))]
+impl Tree for ApiKey {
     ghost is_of_kind = { api_key_of_kind };
 
     fn read_plain(
@@ -218,18 +209,6 @@ impl Tree for ApiKey {
             }
             None => Err(ReadFault::Word("ApiKey")),
         }
-    }
-
-    fn to_value(&self, alloc: Global) -> Result<Value, AllocError> {
-        let (place, value) = self.place_and_value();
-        with_type(alloc, "in", place, value.to_value(alloc)?)
-    }
-
-    fn print(&self, alloc: Global, out: &mut Writer) -> Result<(), AllocError> {
-        let (place, value) = self.place_and_value();
-        let names = api_key_rows_by_name!(row_names!() [tag "in" place,]);
-        let values = api_key_rows_by_name!(row_values!(value) [tag "in" place,]);
-        print_table(alloc, out, names, &values, &value.extensions)
     }
 
     fn try_clone(&self, alloc: Global) -> Result<ApiKey, AllocError> {

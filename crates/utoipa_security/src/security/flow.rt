@@ -1,17 +1,17 @@
 //! The flows of OAuth, each with its own URLs.
-ghost use Rattle.std.specs.Prelude.{◌≡◌, None, Some, refl, false};
+ghost use Rattle.std.specs.Prelude.{◌≡◌, None, Some};
 ghost use Rattle.utoipa_base.specs.Kinds.{named, implicit_flow, password_flow, client_credentials_flow, authorization_code_flow, device_authorization_flow};
 
 use crate::security::row_lists::{clone_table, from_fields, row_values};
 use crate::security::scopes::Scopes;
-use json::Writer;
 use serde_json::Value;
 use std::alloc::{AllocError, Global};
 use utoipa_base::{
-    Extensions, ReadFault, Readings, Tree, print_table, read_table, row_names, write_table,
+    Documented, Emit, Extensions, JsonSink, ReadFault, Readings, Tree, emit_table, read_table,
+    row_names,
 };
 
-// The rows of the implicit flow, in the order of its member table, which is that of the members' names: mark, member, field.
+// The rows of the implicit flow, in the order of the members' names: mark, member, field.
 macro_rules! implicit_rows {
     ($lines:ident!($($arguments:tt)*)) => {
         $lines! {
@@ -68,12 +68,27 @@ impl Implicit {
     }
 }
 
-impl Tree for Implicit {
-    ghost use Rattle.utoipa_security.specs.Flows.{implicit_doc, implicit_of_kind};
+impl Documented for Implicit {
+    ghost use Rattle.utoipa_security.specs.Flows.{implicit_doc};
 
     ghost kind = { named implicit_flow };
 
     ghost doc = { implicit_doc };
+}
+
+impl Emit for Implicit {
+    fn emit<S: JsonSink>(&self, out: &mut S) -> Result<(), AllocError> {
+        emit_table(
+            out,
+            implicit_rows!(row_names!()),
+            &implicit_rows!(row_values!(self)),
+            &self.extensions,
+        )
+    }
+}
+
+impl Tree for Implicit {
+    ghost use Rattle.utoipa_security.specs.Flows.{implicit_of_kind};
 
     ghost is_of_kind = { implicit_of_kind };
 
@@ -87,41 +102,13 @@ impl Tree for Implicit {
         Ok(implicit_rows!(from_fields!(Implicit, fields, extensions)))
     }
 
-    fn to_value(&self, alloc: Global) -> Result<Value, AllocError> {
-        let names = implicit_rows!(row_names!());
-        let values = implicit_rows!(row_values!(self));
-        write_table(alloc, names, &values, &self.extensions)
-    }
-
-    fn print(&self, alloc: Global, out: &mut Writer) -> Result<(), AllocError> {
-        print_table(
-            alloc,
-            out,
-            implicit_rows!(row_names!()),
-            &implicit_rows!(row_values!(self)),
-            &self.extensions,
-        )
-    }
-
     fn try_clone(&self, alloc: Global) -> Result<Implicit, AllocError> {
         implicit_rows!(clone_table!(Implicit, self, alloc))
     }
 }
 
-// The rows of the flow by password, in the order of its member table: mark, member, field.
+// The rows of the flow by password, in the order of the members' names: mark, member, field.
 macro_rules! password_rows {
-    ($lines:ident!($($arguments:tt)*)) => {
-        $lines! {
-            $($arguments)*;
-            required "tokenUrl" token_url,
-            optional "refreshUrl" refresh_url,
-            scopes "scopes" scopes,
-        }
-    };
-}
-
-// The same, in the order of the members' names.
-macro_rules! password_rows_by_name {
     ($lines:ident!($($arguments:tt)*)) => {
         $lines! {
             $($arguments)*;
@@ -173,12 +160,24 @@ impl Password {
     }
 }
 
-impl Tree for Password {
-    ghost use Rattle.utoipa_security.specs.Flows.{password_doc, password_of_kind};
+impl Documented for Password {
+    ghost use Rattle.utoipa_security.specs.Flows.{password_doc};
 
     ghost kind = { named password_flow };
 
     ghost doc = { password_doc };
+}
+
+impl Emit for Password {
+    fn emit<S: JsonSink>(&self, out: &mut S) -> Result<(), AllocError> {
+        let names = password_rows!(row_names!());
+        let values = password_rows!(row_values!(self));
+        emit_table(out, names, &values, &self.extensions)
+    }
+}
+
+impl Tree for Password {
+    ghost use Rattle.utoipa_security.specs.Flows.{password_of_kind};
 
     ghost is_of_kind = { password_of_kind };
 
@@ -192,37 +191,13 @@ impl Tree for Password {
         Ok(password_rows!(from_fields!(Password, fields, extensions)))
     }
 
-    fn to_value(&self, alloc: Global) -> Result<Value, AllocError> {
-        let names = password_rows!(row_names!());
-        let values = password_rows!(row_values!(self));
-        write_table(alloc, names, &values, &self.extensions)
-    }
-
-    fn print(&self, alloc: Global, out: &mut Writer) -> Result<(), AllocError> {
-        let names = password_rows_by_name!(row_names!());
-        let values = password_rows_by_name!(row_values!(self));
-        print_table(alloc, out, names, &values, &self.extensions)
-    }
-
     fn try_clone(&self, alloc: Global) -> Result<Password, AllocError> {
         password_rows!(clone_table!(Password, self, alloc))
     }
 }
 
-// The rows of the flow by the client's credentials, in the order of its member table: mark, member, field.
+// The rows of the flow by the client's credentials, in the order of the members' names: mark, member, field.
 macro_rules! client_credentials_rows {
-    ($lines:ident!($($arguments:tt)*)) => {
-        $lines! {
-            $($arguments)*;
-            required "tokenUrl" token_url,
-            optional "refreshUrl" refresh_url,
-            scopes "scopes" scopes,
-        }
-    };
-}
-
-// The same, in the order of the members' names.
-macro_rules! client_credentials_rows_by_name {
     ($lines:ident!($($arguments:tt)*)) => {
         $lines! {
             $($arguments)*;
@@ -278,12 +253,24 @@ impl ClientCredentials {
     }
 }
 
-impl Tree for ClientCredentials {
-    ghost use Rattle.utoipa_security.specs.Flows.{client_credentials_doc, client_credentials_of_kind};
+impl Documented for ClientCredentials {
+    ghost use Rattle.utoipa_security.specs.Flows.{client_credentials_doc};
 
     ghost kind = { named client_credentials_flow };
 
     ghost doc = { client_credentials_doc };
+}
+
+impl Emit for ClientCredentials {
+    fn emit<S: JsonSink>(&self, out: &mut S) -> Result<(), AllocError> {
+        let names = client_credentials_rows!(row_names!());
+        let values = client_credentials_rows!(row_values!(self));
+        emit_table(out, names, &values, &self.extensions)
+    }
+}
+
+impl Tree for ClientCredentials {
+    ghost use Rattle.utoipa_security.specs.Flows.{client_credentials_of_kind};
 
     ghost is_of_kind = { client_credentials_of_kind };
 
@@ -297,38 +284,13 @@ impl Tree for ClientCredentials {
         Ok(client_credentials_rows!(from_fields!(ClientCredentials, fields, extensions)))
     }
 
-    fn to_value(&self, alloc: Global) -> Result<Value, AllocError> {
-        let names = client_credentials_rows!(row_names!());
-        let values = client_credentials_rows!(row_values!(self));
-        write_table(alloc, names, &values, &self.extensions)
-    }
-
-    fn print(&self, alloc: Global, out: &mut Writer) -> Result<(), AllocError> {
-        let names = client_credentials_rows_by_name!(row_names!());
-        let values = client_credentials_rows_by_name!(row_values!(self));
-        print_table(alloc, out, names, &values, &self.extensions)
-    }
-
     fn try_clone(&self, alloc: Global) -> Result<ClientCredentials, AllocError> {
         client_credentials_rows!(clone_table!(ClientCredentials, self, alloc))
     }
 }
 
-// The rows of the flow by an authorization code, in the order of its member table: mark, member, field.
+// The rows of the flow by an authorization code, in the order of the members' names: mark, member, field.
 macro_rules! authorization_code_rows {
-    ($lines:ident!($($arguments:tt)*)) => {
-        $lines! {
-            $($arguments)*;
-            required "authorizationUrl" authorization_url,
-            required "tokenUrl" token_url,
-            optional "refreshUrl" refresh_url,
-            scopes "scopes" scopes,
-        }
-    };
-}
-
-// The same, in the order of the members' names.
-macro_rules! authorization_code_rows_by_name {
     ($lines:ident!($($arguments:tt)*)) => {
         $lines! {
             $($arguments)*;
@@ -390,12 +352,24 @@ impl AuthorizationCode {
     }
 }
 
-impl Tree for AuthorizationCode {
-    ghost use Rattle.utoipa_security.specs.Flows.{authorization_code_doc, authorization_code_of_kind};
+impl Documented for AuthorizationCode {
+    ghost use Rattle.utoipa_security.specs.Flows.{authorization_code_doc};
 
     ghost kind = { named authorization_code_flow };
 
     ghost doc = { authorization_code_doc };
+}
+
+impl Emit for AuthorizationCode {
+    fn emit<S: JsonSink>(&self, out: &mut S) -> Result<(), AllocError> {
+        let names = authorization_code_rows!(row_names!());
+        let values = authorization_code_rows!(row_values!(self));
+        emit_table(out, names, &values, &self.extensions)
+    }
+}
+
+impl Tree for AuthorizationCode {
+    ghost use Rattle.utoipa_security.specs.Flows.{authorization_code_of_kind};
 
     ghost is_of_kind = { authorization_code_of_kind };
 
@@ -409,38 +383,13 @@ impl Tree for AuthorizationCode {
         Ok(authorization_code_rows!(from_fields!(AuthorizationCode, fields, extensions)))
     }
 
-    fn to_value(&self, alloc: Global) -> Result<Value, AllocError> {
-        let names = authorization_code_rows!(row_names!());
-        let values = authorization_code_rows!(row_values!(self));
-        write_table(alloc, names, &values, &self.extensions)
-    }
-
-    fn print(&self, alloc: Global, out: &mut Writer) -> Result<(), AllocError> {
-        let names = authorization_code_rows_by_name!(row_names!());
-        let values = authorization_code_rows_by_name!(row_values!(self));
-        print_table(alloc, out, names, &values, &self.extensions)
-    }
-
     fn try_clone(&self, alloc: Global) -> Result<AuthorizationCode, AllocError> {
         authorization_code_rows!(clone_table!(AuthorizationCode, self, alloc))
     }
 }
 
-// The rows of the flow of devices, in the order of its member table: mark, member, field.
+// The rows of the flow of devices, in the order of the members' names: mark, member, field.
 macro_rules! device_authorization_rows {
-    ($lines:ident!($($arguments:tt)*)) => {
-        $lines! {
-            $($arguments)*;
-            required "deviceAuthorizationUrl" device_authorization_url,
-            required "tokenUrl" token_url,
-            optional "refreshUrl" refresh_url,
-            scopes "scopes" scopes,
-        }
-    };
-}
-
-// The same, in the order of the members' names.
-macro_rules! device_authorization_rows_by_name {
     ($lines:ident!($($arguments:tt)*)) => {
         $lines! {
             $($arguments)*;
@@ -506,12 +455,24 @@ impl DeviceAuthorization {
     }
 }
 
-impl Tree for DeviceAuthorization {
-    ghost use Rattle.utoipa_security.specs.Flows.{device_authorization_doc, device_authorization_of_kind};
+impl Documented for DeviceAuthorization {
+    ghost use Rattle.utoipa_security.specs.Flows.{device_authorization_doc};
 
     ghost kind = { named device_authorization_flow };
 
     ghost doc = { device_authorization_doc };
+}
+
+impl Emit for DeviceAuthorization {
+    fn emit<S: JsonSink>(&self, out: &mut S) -> Result<(), AllocError> {
+        let names = device_authorization_rows!(row_names!());
+        let values = device_authorization_rows!(row_values!(self));
+        emit_table(out, names, &values, &self.extensions)
+    }
+}
+
+impl Tree for DeviceAuthorization {
+    ghost use Rattle.utoipa_security.specs.Flows.{device_authorization_of_kind};
 
     ghost is_of_kind = { device_authorization_of_kind };
 
@@ -523,18 +484,6 @@ impl Tree for DeviceAuthorization {
         let names = device_authorization_rows!(row_names!());
         let (fields, extensions) = read_table(alloc, tree, "DeviceAuthorization", names, readings)?;
         Ok(device_authorization_rows!(from_fields!(DeviceAuthorization, fields, extensions)))
-    }
-
-    fn to_value(&self, alloc: Global) -> Result<Value, AllocError> {
-        let names = device_authorization_rows!(row_names!());
-        let values = device_authorization_rows!(row_values!(self));
-        write_table(alloc, names, &values, &self.extensions)
-    }
-
-    fn print(&self, alloc: Global, out: &mut Writer) -> Result<(), AllocError> {
-        let names = device_authorization_rows_by_name!(row_names!());
-        let values = device_authorization_rows_by_name!(row_values!(self));
-        print_table(alloc, out, names, &values, &self.extensions)
     }
 
     fn try_clone(&self, alloc: Global) -> Result<DeviceAuthorization, AllocError> {

@@ -1,12 +1,12 @@
 //! The flows of OAuth under their keys: the OAuth Flows Object (OpenAPI 3.1, section 4.8.28).
-ghost use Rattle.std.specs.Prelude.{◌≡◌, Some, option_map, refl, IfOk, IfErr, OnOk};
+ghost use Rattle.std.specs.Prelude.{◌≡◌, Some, option_map, IfOk, IfErr, OnOk};
 ghost use Rattle.std.specs.Iterator.{IsFinite};
 ghost use Rattle.serde_json.specs.View.{view};
 ghost use Rattle.utoipa_base.specs.Choices.{chosen, flow_keys};
 ghost use Rattle.utoipa_base.specs.Faults.{Refuses};
 ghost use Rattle.utoipa_base.specs.Kinds.{named, required};
 ghost use Rattle.utoipa_base.specs.Kinds as kinds;
-ghost use Rattle.utoipa_base.specs.Printed.{Prints};
+ghost use Rattle.utoipa_base.specs.Events.{events};
 ghost use Rattle.utoipa_base.specs.Reading.{read};
 ghost use Rattle.utoipa_base.specs.Tables.{row};
 ghost use Rattle.utoipa_base.specs.Writing.{write};
@@ -15,12 +15,11 @@ ghost use Rattle.utoipa_security.specs.OAuth.{flow_object, flow_view, flow_key, 
 use crate::security::flow::{
     AuthorizationCode, ClientCredentials, DeviceAuthorization, Implicit, Password,
 };
-use json::Writer;
-use serde_json::{Map, Value, put};
+use serde_json::Value;
 use std::alloc::{AllocError, Global};
 use std::collections::BTreeMap;
-use utoipa_base::table::{RowField, RowValue};
-use utoipa_base::{ReadFault, Readings, Tree};
+use utoipa_base::table::RowField;
+use utoipa_base::{Emit, EmitRow, JsonSink, PendingExtensions, ReadFault, Readings, Tree};
 
 /// An OAuth Flow Object (OpenAPI 3.1, section 4.8.29) of one of the kinds.
 #[derive(Debug, Drop)]
@@ -51,29 +50,16 @@ impl Flow {
         }
     }
 
-    // The tree that the flow is written as.
-    fn to_value(&self, alloc: Global) -> Result<Value, AllocError>
-        ensures { IfOk result (λ v. view v ≡ write (flow_object self.now)) }
+    // Sends the flow. Fails where the sink does; then some of it may have been sent.
+    fn emit<S: JsonSink>(&self, out: &mut S) -> Result<(), AllocError>
+        ensures { OnOk result (S.adds out.old (events (write (flow_object self.now))) out.new) }
     {
         match self {
-            Flow::Implicit(flow) => flow.to_value(alloc),
-            Flow::Password(flow) => flow.to_value(alloc),
-            Flow::ClientCredentials(flow) => flow.to_value(alloc),
-            Flow::AuthorizationCode(flow) => flow.to_value(alloc),
-            Flow::DeviceAuthorization(flow) => flow.to_value(alloc),
-        }
-    }
-
-    // Prints the flow. Fails where memory runs out; then some of it may have been printed.
-    fn print(&self, alloc: Global, out: &mut Writer) -> Result<(), AllocError>
-        ensures { OnOk result (Prints (write (flow_object self.now)) out.old out.new) }
-    {
-        match self {
-            Flow::Implicit(flow) => flow.print(alloc, out),
-            Flow::Password(flow) => flow.print(alloc, out),
-            Flow::ClientCredentials(flow) => flow.print(alloc, out),
-            Flow::AuthorizationCode(flow) => flow.print(alloc, out),
-            Flow::DeviceAuthorization(flow) => flow.print(alloc, out),
+            Flow::Implicit(flow) => flow.emit(out),
+            Flow::Password(flow) => flow.emit(out),
+            Flow::ClientCredentials(flow) => flow.emit(out),
+            Flow::AuthorizationCode(flow) => flow.emit(out),
+            Flow::DeviceAuthorization(flow) => flow.emit(out),
         }
     }
 
@@ -227,59 +213,36 @@ impl RowField for FlowsField {
     }
 }
 
-fn flows_value(alloc: Global, flows: &BTreeMap<String, Flow>) -> Result<Value, AllocError>
-    ensures { IfOk result (λ v. view v ≡ write (flows_doc flows.now)) }
-{
-    let mut members = Map::new(alloc);
-    for (key, member) in flows.iter() {
-        put(&mut members, alloc, key.as_str(), member.to_value(alloc)?)?;
-    }
-    Ok(Value::Object(members))
-}
-
-// Prints the flows under their keys. Fails where memory runs out; then some of them may have been printed.
-fn print_flows(
-    alloc: Global,
-    out: &mut Writer,
-    flows: &BTreeMap<String, Flow>,
-) -> Result<(), AllocError>
-    ensures { OnOk result (Prints (write (flows_doc flows.now)) out.old out.new) }
+// Sends the flows under their keys. Fails where the sink does; then some of them may have been sent.
+fn emit_flows<S: JsonSink>(out: &mut S, flows: &BTreeMap<String, Flow>) -> Result<(), AllocError>
+    ensures { OnOk result (S.adds out.old (events (write (flows_doc flows.now))) out.new) }
 {
     out.begin_object()?;
-    for (key, flow) in flows.iter() {
-        out.key(key.as_str())?;
-        flow.print(alloc, out)?;
+    for (name, member) in flows.iter() {
+        out.key(name.as_str())?;
+        member.emit(out)?;
     }
     out.end_object()
 }
 
-/// The flows of an OAuth scheme, to be written: a required member of it.
+/// The flows of an OAuth scheme, to be sent: a required member of it.
 #[derive(Clone, Copy)]
-pub(crate) struct FlowsValue<'a>(pub(crate) &'a BTreeMap<String, Flow>);
+pub(crate) struct FlowsValue<'v>(pub(crate) &'v BTreeMap<String, Flow>);
 
-#[tactic(auto, using(utoipa_base::proofs::ByRows::by_row))]
-impl<'a> RowValue for FlowsValue<'a> {
+impl<'v> EmitRow for FlowsValue<'v> {
     ghost line = { λ name. row name required kinds.flows };
-
-    ghost is_named = { λ _. refl };
 
     ghost doc = { λ v. flows_doc v.0.now };
 
-    fn write(
+    fn emit<'a, S: JsonSink>(
         &self,
-        members: &mut Map<String, Value>,
-        alloc: Global,
+        out: &mut S,
         name: &str,
-    ) -> Result<(), AllocError> {
-        put(members, alloc, name, flows_value(alloc, self.0)?)
-    }
-
-    fn is_left_out(&self) -> bool {
-        false
-    }
-
-    fn print(&self, alloc: Global, out: &mut Writer) -> Result<(), AllocError> {
-        print_flows(alloc, out, self.0)
+        pending: PendingExtensions<'a>,
+    ) -> Result<PendingExtensions<'a>, AllocError> {
+        let later = pending.emit_key(out, name)?;
+        emit_flows(out, self.0)?;
+        Ok(later)
     }
 }
 

@@ -1,17 +1,16 @@
 //! Schemes of HTTP authentication.
-ghost use Rattle.std.specs.Prelude.{◌≡◌, None, Some, codes, refl, false, OnOk};
+ghost use Rattle.std.specs.Prelude.{◌≡◌, None, Some, codes, refl, OnOk};
 ghost use Rattle.utoipa_base.specs.Docs.{tagged_doc};
 ghost use Rattle.utoipa_base.specs.Kinds.{named, http_scheme, word_of, http_auth_scheme};
-ghost use Rattle.utoipa_base.specs.Printed.{Prints};
+ghost use Rattle.utoipa_base.specs.Events.{events};
 ghost use Rattle.utoipa_base.specs.Writing.{write};
 
 use crate::security::row_lists::row_values;
-use json::Writer;
 use serde_json::Value;
 use std::alloc::{AllocError, Global};
 use utoipa_base::{
-    Deprecated, Extensions, ReadFault, Readings, Tree, Word, clone_table, from_fields, print_table,
-    print_word, read_table, read_word, row_names, write_table, write_word,
+    Deprecated, Documented, Emit, Extensions, JsonSink, ReadFault, Readings, Tree, Word,
+    clone_table, emit_table, emit_word, from_fields, read_table, read_word, row_names,
 };
 
 /// The name of an HTTP authentication scheme: the member `scheme` of a Security Scheme Object of the type `http`
@@ -86,13 +85,24 @@ impl Word for HttpAuthScheme {
     }
 }
 
-#[tactic(auto, using(utoipa_base::proofs::ByWords::by_words))]
-impl Tree for HttpAuthScheme {
-    ghost use Rattle.utoipa_security.specs.Http.{auth_scheme_doc, auth_scheme_of_kind};
+impl Documented for HttpAuthScheme {
+    ghost use Rattle.utoipa_security.specs.Http.{auth_scheme_doc};
 
     ghost kind = { word_of http_auth_scheme };
 
     ghost doc = { auth_scheme_doc };
+}
+
+#[tactic(auto, using(utoipa_base::proofs::ByWords::by_words))]
+impl Emit for HttpAuthScheme {
+    fn emit<S: JsonSink>(&self, out: &mut S) -> Result<(), AllocError> {
+        emit_word(out, self)
+    }
+}
+
+#[tactic(auto, using(utoipa_base::proofs::ByWords::by_words))]
+impl Tree for HttpAuthScheme {
+    ghost use Rattle.utoipa_security.specs.Http.{auth_scheme_of_kind};
 
     ghost is_of_kind = { auth_scheme_of_kind };
 
@@ -104,34 +114,14 @@ impl Tree for HttpAuthScheme {
         read_word(tree, "HttpAuthScheme")
     }
 
-    fn to_value(&self, alloc: Global) -> Result<Value, AllocError> {
-        write_word(alloc, self)
-    }
-
-    fn print(&self, _alloc: Global, out: &mut Writer) -> Result<(), AllocError> {
-        print_word(out, self)
-    }
-
     fn try_clone(&self, _alloc: Global) -> Result<HttpAuthScheme, AllocError> {
         Ok(*self)
     }
 }
 
-// The rows of a scheme of HTTP authentication, in the order of its member table: mark, member, field.
+// The rows of a scheme of HTTP authentication, in the order of the members' names: mark, member, field. Others may
+// stand last.
 macro_rules! http_rows {
-    ($lines:ident!($($arguments:tt)*)) => {
-        $lines! {
-            $($arguments)*;
-            required "scheme" scheme,
-            optional "bearerFormat" bearer_format,
-            optional "description" description,
-            optional "deprecated" deprecated,
-        }
-    };
-}
-
-// The same, in the order of the members' names, with rows that come last.
-macro_rules! http_rows_by_name {
     ($lines:ident!($($arguments:tt)*) $($last:tt)*) => {
         $lines! {
             $($arguments)*;
@@ -182,28 +172,34 @@ impl Http {
         HttpBuilder::new()
     }
 
-    /// Prints the scheme with its member `type`, of this word. Fails where memory runs out; then some of it may have been
-    /// printed.
-    pub(crate) fn print_typed(
-        &self,
-        alloc: Global,
-        out: &mut Writer,
-        word: &str,
-    ) -> Result<(), AllocError>
-        ensures { OnOk result (Prints (write (tagged_doc (codes "type") word.now (http_doc self.now))) out.old out.new) }
+    /// Sends the scheme with its member `type`, of this word. Fails where the sink does; then some of it may have been sent.
+    pub(crate) fn emit_typed<S: JsonSink>(&self, out: &mut S, word: &str) -> Result<(), AllocError>
+        ensures { OnOk result (S.adds out.old (events (write (tagged_doc (codes "type") word.now (http_doc self.now)))) out.new) }
     {
-        let names = http_rows_by_name!(row_names!() tag "type" word,);
-        let values = http_rows_by_name!(row_values!(self) tag "type" word,);
-        print_table(alloc, out, names, &values, &self.extensions)
+        let names = http_rows!(row_names!() tag "type" word,);
+        let values = http_rows!(row_values!(self) tag "type" word,);
+        emit_table(out, names, &values, &self.extensions)
     }
 }
 
-impl Tree for Http {
-    ghost use Rattle.utoipa_security.specs.Http.{http_doc, http_of_kind};
+impl Documented for Http {
+    ghost use Rattle.utoipa_security.specs.Http.{http_doc};
 
     ghost kind = { named http_scheme };
 
     ghost doc = { http_doc };
+}
+
+impl Emit for Http {
+    fn emit<S: JsonSink>(&self, out: &mut S) -> Result<(), AllocError> {
+        let names = http_rows!(row_names!());
+        let values = http_rows!(row_values!(self));
+        emit_table(out, names, &values, &self.extensions)
+    }
+}
+
+impl Tree for Http {
+    ghost use Rattle.utoipa_security.specs.Http.{http_of_kind};
 
     ghost is_of_kind = { http_of_kind };
 
@@ -211,18 +207,6 @@ impl Tree for Http {
         let names = http_rows!(row_names!());
         let (fields, extensions) = read_table(alloc, tree, "Http", names, readings)?;
         Ok(http_rows!(from_fields!(Http, fields, extensions)))
-    }
-
-    fn to_value(&self, alloc: Global) -> Result<Value, AllocError> {
-        let names = http_rows!(row_names!());
-        let values = http_rows!(row_values!(self));
-        write_table(alloc, names, &values, &self.extensions)
-    }
-
-    fn print(&self, alloc: Global, out: &mut Writer) -> Result<(), AllocError> {
-        let names = http_rows_by_name!(row_names!());
-        let values = http_rows_by_name!(row_values!(self));
-        print_table(alloc, out, names, &values, &self.extensions)
     }
 
     fn try_clone(&self, alloc: Global) -> Result<Http, AllocError> {

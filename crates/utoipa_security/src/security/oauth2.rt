@@ -1,37 +1,23 @@
 //! Schemes by OAuth 2.
-ghost use Rattle.std.specs.Prelude.{◌≡◌, None, Some, codes, refl, false, IfOk, OnOk};
+ghost use Rattle.std.specs.Prelude.{◌≡◌, None, Some, codes, IfOk, OnOk};
 ghost use Rattle.std.specs.Iterator.{IsFinite};
 ghost use Rattle.utoipa_base.specs.Docs.{tagged_doc};
 ghost use Rattle.utoipa_base.specs.Kinds.{named, oauth2_scheme};
-ghost use Rattle.utoipa_base.specs.Printed.{Prints};
+ghost use Rattle.utoipa_base.specs.Events.{events};
 ghost use Rattle.utoipa_base.specs.Writing.{write};
 
 use crate::security::flows::{Flow, keyed_flows};
 use crate::security::row_lists::{clone_table, from_fields, row_values};
-use json::Writer;
 use serde_json::Value;
 use std::alloc::{AllocError, Global};
 use std::collections::BTreeMap;
 use utoipa_base::{
-    Deprecated, Extensions, ReadFault, Readings, Tree, print_table, read_table, row_names,
-    write_table,
+    Deprecated, Documented, Emit, Extensions, JsonSink, ReadFault, Readings, Tree, emit_table,
+    read_table, row_names,
 };
 
-// The rows of a scheme by OAuth 2, in the order of its member table: mark, member, field.
+// The rows of a scheme by OAuth 2, in the order of the members' names: mark, member, field. Others may stand last.
 macro_rules! oauth2_rows {
-    ($lines:ident!($($arguments:tt)*)) => {
-        $lines! {
-            $($arguments)*;
-            flows "flows" flows,
-            optional "oauth2MetadataUrl" oauth2_metadata_url,
-            optional "description" description,
-            optional "deprecated" deprecated,
-        }
-    };
-}
-
-// The same, in the order of the members' names, with rows that come last.
-macro_rules! oauth2_rows_by_name {
     ($lines:ident!($($arguments:tt)*) $($last:tt)*) => {
         $lines! {
             $($arguments)*;
@@ -116,28 +102,34 @@ impl OAuth2 {
         self
     }
 
-    /// Prints the scheme with its member `type`, of this word. Fails where memory runs out; then some of it may have been
-    /// printed.
-    pub(crate) fn print_typed(
-        &self,
-        alloc: Global,
-        out: &mut Writer,
-        word: &str,
-    ) -> Result<(), AllocError>
-        ensures { OnOk result (Prints (write (tagged_doc (codes "type") word.now (oauth2_doc self.now))) out.old out.new) }
+    /// Sends the scheme with its member `type`, of this word. Fails where the sink does; then some of it may have been sent.
+    pub(crate) fn emit_typed<S: JsonSink>(&self, out: &mut S, word: &str) -> Result<(), AllocError>
+        ensures { OnOk result (S.adds out.old (events (write (tagged_doc (codes "type") word.now (oauth2_doc self.now)))) out.new) }
     {
-        let names = oauth2_rows_by_name!(row_names!() tag "type" word,);
-        let values = oauth2_rows_by_name!(row_values!(self) tag "type" word,);
-        print_table(alloc, out, names, &values, &self.extensions)
+        let names = oauth2_rows!(row_names!() tag "type" word,);
+        let values = oauth2_rows!(row_values!(self) tag "type" word,);
+        emit_table(out, names, &values, &self.extensions)
     }
 }
 
-impl Tree for OAuth2 {
-    ghost use Rattle.utoipa_security.specs.OAuth.{oauth2_doc, oauth2_of_kind};
+impl Documented for OAuth2 {
+    ghost use Rattle.utoipa_security.specs.OAuth.{oauth2_doc};
 
     ghost kind = { named oauth2_scheme };
 
     ghost doc = { oauth2_doc };
+}
+
+impl Emit for OAuth2 {
+    fn emit<S: JsonSink>(&self, out: &mut S) -> Result<(), AllocError> {
+        let names = oauth2_rows!(row_names!());
+        let values = oauth2_rows!(row_values!(self));
+        emit_table(out, names, &values, &self.extensions)
+    }
+}
+
+impl Tree for OAuth2 {
+    ghost use Rattle.utoipa_security.specs.OAuth.{oauth2_of_kind};
 
     ghost is_of_kind = { oauth2_of_kind };
 
@@ -149,18 +141,6 @@ impl Tree for OAuth2 {
         let names = oauth2_rows!(row_names!());
         let (fields, extensions) = read_table(alloc, tree, "OAuth2", names, readings)?;
         Ok(oauth2_rows!(from_fields!(OAuth2, fields, extensions)))
-    }
-
-    fn to_value(&self, alloc: Global) -> Result<Value, AllocError> {
-        let names = oauth2_rows!(row_names!());
-        let values = oauth2_rows!(row_values!(self));
-        write_table(alloc, names, &values, &self.extensions)
-    }
-
-    fn print(&self, alloc: Global, out: &mut Writer) -> Result<(), AllocError> {
-        let names = oauth2_rows_by_name!(row_names!());
-        let values = oauth2_rows_by_name!(row_values!(self));
-        print_table(alloc, out, names, &values, &self.extensions)
     }
 
     fn try_clone(&self, alloc: Global) -> Result<OAuth2, AllocError> {

@@ -1,33 +1,20 @@
 //! Schemes whose configuration is found by OpenID Connect Discovery.
-ghost use Rattle.std.specs.Prelude.{◌≡◌, None, Some, codes, refl, false, OnOk};
+ghost use Rattle.std.specs.Prelude.{◌≡◌, None, Some, codes, OnOk};
 ghost use Rattle.utoipa_base.specs.Docs.{tagged_doc};
 ghost use Rattle.utoipa_base.specs.Kinds.{named, open_id_connect_scheme};
-ghost use Rattle.utoipa_base.specs.Printed.{Prints};
+ghost use Rattle.utoipa_base.specs.Events.{events};
 ghost use Rattle.utoipa_base.specs.Writing.{write};
 
 use crate::security::row_lists::row_values;
-use json::Writer;
 use serde_json::Value;
 use std::alloc::{AllocError, Global};
 use utoipa_base::{
-    Deprecated, Extensions, ReadFault, Readings, Tree, clone_table, from_fields, print_table,
-    read_table, row_names, write_table,
+    Deprecated, Documented, Emit, Extensions, JsonSink, ReadFault, Readings, Tree, clone_table,
+    emit_table, from_fields, read_table, row_names,
 };
 
-// The rows of a scheme by OpenID Connect, in the order of its member table: mark, member, field.
+// The rows of a scheme by OpenID Connect, in the order of the members' names: mark, member, field. Others may stand last.
 macro_rules! open_id_connect_rows {
-    ($lines:ident!($($arguments:tt)*)) => {
-        $lines! {
-            $($arguments)*;
-            required "openIdConnectUrl" open_id_connect_url,
-            optional "description" description,
-            optional "deprecated" deprecated,
-        }
-    };
-}
-
-// The same, in the order of the members' names, with rows that come last.
-macro_rules! open_id_connect_rows_by_name {
     ($lines:ident!($($arguments:tt)*) $($last:tt)*) => {
         $lines! {
             $($arguments)*;
@@ -87,28 +74,34 @@ impl OpenIdConnect {
         self
     }
 
-    /// Prints the scheme with its member `type`, of this word. Fails where memory runs out; then some of it may have been
-    /// printed.
-    pub(crate) fn print_typed(
-        &self,
-        alloc: Global,
-        out: &mut Writer,
-        word: &str,
-    ) -> Result<(), AllocError>
-        ensures { OnOk result (Prints (write (tagged_doc (codes "type") word.now (open_id_connect_doc self.now))) out.old out.new) }
+    /// Sends the scheme with its member `type`, of this word. Fails where the sink does; then some of it may have been sent.
+    pub(crate) fn emit_typed<S: JsonSink>(&self, out: &mut S, word: &str) -> Result<(), AllocError>
+        ensures { OnOk result (S.adds out.old (events (write (tagged_doc (codes "type") word.now (open_id_connect_doc self.now)))) out.new) }
     {
-        let names = open_id_connect_rows_by_name!(row_names!() tag "type" word,);
-        let values = open_id_connect_rows_by_name!(row_values!(self) tag "type" word,);
-        print_table(alloc, out, names, &values, &self.extensions)
+        let names = open_id_connect_rows!(row_names!() tag "type" word,);
+        let values = open_id_connect_rows!(row_values!(self) tag "type" word,);
+        emit_table(out, names, &values, &self.extensions)
     }
 }
 
-impl Tree for OpenIdConnect {
-    ghost use Rattle.utoipa_security.specs.OpenIdConnect.{open_id_connect_doc, open_id_connect_of_kind};
+impl Documented for OpenIdConnect {
+    ghost use Rattle.utoipa_security.specs.OpenIdConnect.{open_id_connect_doc};
 
     ghost kind = { named open_id_connect_scheme };
 
     ghost doc = { open_id_connect_doc };
+}
+
+impl Emit for OpenIdConnect {
+    fn emit<S: JsonSink>(&self, out: &mut S) -> Result<(), AllocError> {
+        let names = open_id_connect_rows!(row_names!());
+        let values = open_id_connect_rows!(row_values!(self));
+        emit_table(out, names, &values, &self.extensions)
+    }
+}
+
+impl Tree for OpenIdConnect {
+    ghost use Rattle.utoipa_security.specs.OpenIdConnect.{open_id_connect_of_kind};
 
     ghost is_of_kind = { open_id_connect_of_kind };
 
@@ -120,18 +113,6 @@ impl Tree for OpenIdConnect {
         let names = open_id_connect_rows!(row_names!());
         let (fields, extensions) = read_table(alloc, tree, "OpenIdConnect", names, readings)?;
         Ok(open_id_connect_rows!(from_fields!(OpenIdConnect, fields, extensions)))
-    }
-
-    fn to_value(&self, alloc: Global) -> Result<Value, AllocError> {
-        let names = open_id_connect_rows!(row_names!());
-        let values = open_id_connect_rows!(row_values!(self));
-        write_table(alloc, names, &values, &self.extensions)
-    }
-
-    fn print(&self, alloc: Global, out: &mut Writer) -> Result<(), AllocError> {
-        let names = open_id_connect_rows_by_name!(row_names!());
-        let values = open_id_connect_rows_by_name!(row_values!(self));
-        print_table(alloc, out, names, &values, &self.extensions)
     }
 
     fn try_clone(&self, alloc: Global) -> Result<OpenIdConnect, AllocError> {

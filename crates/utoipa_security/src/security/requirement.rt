@@ -5,11 +5,10 @@ ghost use Rattle.std.specs.Iterator.{IsFinite};
 ghost use Rattle.utoipa_base.specs.Lists.{IsFilledFrom};
 ghost use Rattle.utoipa_base.specs.Tables.{security_requirement};
 
-use json::Writer;
 use serde_json::Value;
 use std::alloc::{AllocError, Global};
 use std::collections::BTreeMap;
-use utoipa_base::{ReadFault, Readings, Same, Tree, list_from};
+use utoipa_base::{Documented, Emit, JsonSink, ReadFault, Readings, Same, Tree, list_from};
 
 /// A Security Requirement Object (OpenAPI 3.1, section 4.8.30): names of security schemes, each with the scopes or roles
 /// that it takes. All of the schemes have to be met; where there is none, security is optional.
@@ -74,13 +73,24 @@ impl SecurityRequirement {
     }
 }
 
-/// An object as a map from the names of schemes.
-impl Tree for SecurityRequirement {
-    ghost use Rattle.utoipa_security.specs.Requirement.{requirement_doc, requirement_of_kind};
+impl Documented for SecurityRequirement {
+    ghost use Rattle.utoipa_security.specs.Requirement.{requirement_doc};
 
     ghost kind = { security_requirement };
 
     ghost doc = { requirement_doc };
+}
+
+/// An object as a map from the names of schemes.
+impl Emit for SecurityRequirement {
+    fn emit<S: JsonSink>(&self, out: &mut S) -> Result<(), AllocError> {
+        self.value.emit(out)
+    }
+}
+
+/// An object as a map from the names of schemes.
+impl Tree for SecurityRequirement {
+    ghost use Rattle.utoipa_security.specs.Requirement.{requirement_of_kind};
 
     ghost is_of_kind = { requirement_of_kind };
 
@@ -91,14 +101,6 @@ impl Tree for SecurityRequirement {
     ) -> Result<SecurityRequirement, ReadFault> {
         let value = <BTreeMap<String, Vec<String>> as Tree>::read_plain(alloc, tree, readings)?;
         Ok(SecurityRequirement { value })
-    }
-
-    fn to_value(&self, alloc: Global) -> Result<Value, AllocError> {
-        self.value.to_value(alloc)
-    }
-
-    fn print(&self, alloc: Global, out: &mut Writer) -> Result<(), AllocError> {
-        self.value.print(alloc, out)
     }
 
     fn try_clone(&self, alloc: Global) -> Result<SecurityRequirement, AllocError> {

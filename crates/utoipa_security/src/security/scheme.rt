@@ -3,7 +3,7 @@ ghost use Rattle.std.specs.Prelude.{◌≡◌, codes, IfOk, OnOk};
 ghost use Rattle.serde_json.specs.View.{view};
 ghost use Rattle.utoipa_base.specs.Docs.{tagged_doc};
 ghost use Rattle.utoipa_base.specs.Kinds.{named, security_scheme, mutual_tls_scheme};
-ghost use Rattle.utoipa_base.specs.Printed.{Prints};
+ghost use Rattle.utoipa_base.specs.Events.{events};
 ghost use Rattle.utoipa_base.specs.Reading.{read};
 ghost use Rattle.utoipa_base.specs.Reads.{Reads};
 ghost use Rattle.utoipa_base.specs.Values.{values};
@@ -15,18 +15,17 @@ use crate::security::api_key::ApiKey;
 use crate::security::http::Http;
 use crate::security::oauth2::OAuth2;
 use crate::security::open_id_connect::OpenIdConnect;
-use crate::security::scheme_type::{TypeValue, read_type, with_type};
-use json::Writer;
+use crate::security::scheme_type::{TypeValue, read_type};
 use serde_json::Value;
 use std::alloc::{AllocError, Global};
 use utoipa_base::table::{OptionalField, OptionalValue};
 use utoipa_base::{
-    Deprecated, Extensions, Place, ReadFault, Readings, Tree, clone_extensions, clone_option,
-    print_table, read_table, write_table,
+    Deprecated, Documented, Emit, Extensions, JsonSink, Place, ReadFault, Readings, Tree,
+    clone_extensions, clone_option, emit_table, read_table,
 };
 
-// The members of a scheme of the type `mutualTLS`, in the order of its member table.
-const MUTUAL_TLS_NAMES: [&str; 2] = ["description", "deprecated"];
+// The members of a scheme of the type `mutualTLS`, in the order of their names.
+const MUTUAL_TLS_NAMES: [&str; 2] = ["deprecated", "description"];
 
 /// A Security Scheme Object (OpenAPI 3.1, section 4.8.27), by its member `type`.
 #[derive(Debug, Drop)]
@@ -84,7 +83,7 @@ fn read_mutual_tls(
 {
     let names = &MUTUAL_TLS_NAMES;
     let (fields, extensions) = read_table(alloc, tree, "SecurityScheme", names, readings)?;
-    let (OptionalField(description), (OptionalField(deprecated), ())) = fields;
+    let (OptionalField(deprecated), (OptionalField(description), ())) = fields;
     Ok(SecurityScheme::MutualTls {
         description,
         deprecated,
@@ -92,28 +91,15 @@ fn read_mutual_tls(
     })
 }
 
-fn mutual_tls_value(
-    alloc: Global,
-    description: &Option<String>,
-    deprecated: &Option<Deprecated>,
-    extensions: &Option<Extensions>,
-) -> Result<Value, AllocError>
-    ensures { IfOk result (λ v. view v ≡ write (mutual_tls_doc description.now deprecated.now extensions.now)) }
-{
-    let values = (OptionalValue(description), (OptionalValue(deprecated), ()));
-    write_table(alloc, &MUTUAL_TLS_NAMES, &values, extensions)
-}
-
-// Prints a scheme of the type `mutualTLS`. Fails where memory runs out; then some of it may have been printed.
-fn print_mutual_tls(
-    alloc: Global,
-    out: &mut Writer,
+// Sends a scheme of the type `mutualTLS`. Fails where the sink does; then some of it may have been sent.
+fn emit_mutual_tls<S: JsonSink>(
+    out: &mut S,
     description: &Option<String>,
     deprecated: &Option<Deprecated>,
     extensions: &Option<Extensions>,
 ) -> Result<(), AllocError>
-    ensures { OnOk result (Prints (write (tagged_doc (codes "type") (codes "mutualTLS")
-        (mutual_tls_doc description.now deprecated.now extensions.now))) out.old out.new) }
+    ensures { OnOk result (S.adds out.old (events (write (tagged_doc (codes "type") (codes "mutualTLS")
+        (mutual_tls_doc description.now deprecated.now extensions.now)))) out.new) }
 {
     let names = &["deprecated", "description", "type"];
     let last = (TypeValue("mutualTLS"), ());
@@ -121,7 +107,7 @@ fn print_mutual_tls(
         OptionalValue(deprecated),
         (OptionalValue(description), last),
     );
-    print_table(alloc, out, names, &values, extensions)
+    emit_table(out, names, &values, extensions)
 }
 
 // The members of a scheme of one type.
@@ -150,12 +136,30 @@ fn read_scheme(
     }
 }
 
-#[tactic(auto, using(crate::proofs::SchemeTypes::by_scheme_types))]
-impl Tree for SecurityScheme {
+impl Documented for SecurityScheme {
     ghost kind = { security_scheme };
 
     ghost doc = { scheme_doc };
+}
 
+impl Emit for SecurityScheme {
+    fn emit<S: JsonSink>(&self, out: &mut S) -> Result<(), AllocError> {
+        match self {
+            SecurityScheme::OAuth2(scheme) => scheme.emit_typed(out, "oauth2"),
+            SecurityScheme::ApiKey(scheme) => scheme.emit_typed(out, "apiKey"),
+            SecurityScheme::Http(scheme) => scheme.emit_typed(out, "http"),
+            SecurityScheme::OpenIdConnect(scheme) => { scheme.emit_typed(out, "openIdConnect") }
+            SecurityScheme::MutualTls {
+                description,
+                deprecated,
+                extensions,
+            } => emit_mutual_tls(out, description, deprecated, extensions),
+        }
+    }
+}
+
+#[tactic(auto, using(crate::proofs::SchemeTypes::by_scheme_types))]
+impl Tree for SecurityScheme {
     ghost is_of_kind = { scheme_of_kind };
 
     fn read_plain(
@@ -167,47 +171,6 @@ impl Tree for SecurityScheme {
         match scheme_type(word) {
             Some(kind) => read_scheme(kind, alloc, tree, readings),
             None => Err(ReadFault::Word("SecurityScheme")),
-        }
-    }
-
-    fn to_value(&self, alloc: Global) -> Result<Value, AllocError> {
-        match self {
-            SecurityScheme::OAuth2(scheme) => {
-                with_type(alloc, "type", "oauth2", scheme.to_value(alloc)?)
-            }
-            SecurityScheme::ApiKey(scheme) => {
-                with_type(alloc, "type", "apiKey", scheme.to_value(alloc)?)
-            }
-            SecurityScheme::Http(scheme) => {
-                with_type(alloc, "type", "http", scheme.to_value(alloc)?)
-            }
-            SecurityScheme::OpenIdConnect(scheme) => {
-                with_type(alloc, "type", "openIdConnect", scheme.to_value(alloc)?)
-            }
-            SecurityScheme::MutualTls {
-                description,
-                deprecated,
-                extensions,
-            } => {
-                let written = mutual_tls_value(alloc, description, deprecated, extensions)?;
-                with_type(alloc, "type", "mutualTLS", written)
-            }
-        }
-    }
-
-    fn print(&self, alloc: Global, out: &mut Writer) -> Result<(), AllocError> {
-        match self {
-            SecurityScheme::OAuth2(scheme) => scheme.print_typed(alloc, out, "oauth2"),
-            SecurityScheme::ApiKey(scheme) => scheme.print_typed(alloc, out, "apiKey"),
-            SecurityScheme::Http(scheme) => scheme.print_typed(alloc, out, "http"),
-            SecurityScheme::OpenIdConnect(scheme) => {
-                scheme.print_typed(alloc, out, "openIdConnect")
-            }
-            SecurityScheme::MutualTls {
-                description,
-                deprecated,
-                extensions,
-            } => print_mutual_tls(alloc, out, description, deprecated, extensions),
         }
     }
 

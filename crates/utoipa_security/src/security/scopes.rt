@@ -1,18 +1,18 @@
 //! The scopes of an OAuth flow.
-ghost use Rattle.std.specs.Prelude.{◌≡◌, [], ◌∷◌, refl, IfOk};
+ghost use Rattle.std.specs.Prelude.{◌≡◌, [], ◌∷◌, IfOk};
 ghost use Rattle.std.specs.Iterator.{IsFinite, Drains};
 ghost use Rattle.utoipa_base.specs.Kinds.{named, scopes_object, text, map_of, required};
 ghost use Rattle.utoipa_base.specs.Tables.{row};
 ghost use Rattle.utoipa_security.specs.Scopes.{scopes_member};
 
-use json::Writer;
-use serde_json::{Map, Value};
+use serde_json::Value;
 use std::alloc::{AllocError, Global};
 use std::collections::BTreeMap;
-use utoipa_base::table::{RowField, RowValue};
+use utoipa_base::table::RowField;
 use utoipa_base::{
-    ReadFault, Readings, Tree, from_fields_alone, print_table, read_table_alone, row_names,
-    row_required, row_values, write_required, write_table_alone,
+    Documented, Emit, EmitRow, JsonSink, PendingExtensions, ReadFault, Readings, Tree,
+    emit_required, emit_table, from_fields_alone, read_table_alone, row_names, row_required,
+    row_values,
 };
 
 // The row of scopes by themselves: mark, member, field.
@@ -72,13 +72,26 @@ impl Scopes {
     }
 }
 
-/// An object with the one member `scopes`.
-impl Tree for Scopes {
-    ghost use Rattle.utoipa_security.specs.Scopes.{scopes_doc, scopes_of_kind};
+impl Documented for Scopes {
+    ghost use Rattle.utoipa_security.specs.Scopes.{scopes_doc};
 
     ghost kind = { named scopes_object };
 
     ghost doc = { scopes_doc };
+}
+
+/// An object with the one member `scopes`.
+impl Emit for Scopes {
+    fn emit<S: JsonSink>(&self, out: &mut S) -> Result<(), AllocError> {
+        let names = scopes_rows!(row_names!());
+        let values = scopes_rows!(row_values!(self));
+        emit_table(out, names, &values, &None)
+    }
+}
+
+/// An object with the one member `scopes`.
+impl Tree for Scopes {
+    ghost use Rattle.utoipa_security.specs.Scopes.{scopes_of_kind};
 
     ghost is_of_kind = { scopes_of_kind };
 
@@ -90,18 +103,6 @@ impl Tree for Scopes {
         let names = scopes_rows!(row_names!());
         let fields = read_table_alone(alloc, tree, "Scopes", names, readings)?;
         Ok(scopes_rows!(from_fields_alone!(Scopes, fields)))
-    }
-
-    fn to_value(&self, alloc: Global) -> Result<Value, AllocError> {
-        let names = scopes_rows!(row_names!());
-        let values = scopes_rows!(row_values!(self));
-        write_table_alone(alloc, names, &values)
-    }
-
-    fn print(&self, alloc: Global, out: &mut Writer) -> Result<(), AllocError> {
-        let names = scopes_rows!(row_names!());
-        let values = scopes_rows!(row_values!(self));
-        print_table(alloc, out, names, &values, &None)
     }
 
     fn try_clone(&self, alloc: Global) -> Result<Scopes, AllocError> {
@@ -129,32 +130,22 @@ impl RowField for ScopesField {
     }
 }
 
-/// The scopes of a flow, to be written: a required member of it.
+/// The scopes of a flow, to be sent: a required member of it.
 #[derive(Clone, Copy)]
 pub(crate) struct ScopesValue<'a>(pub(crate) &'a Scopes);
 
-impl<'a> RowValue for ScopesValue<'a> {
+impl<'v> EmitRow for ScopesValue<'v> {
     ghost line = { λ name. row name required (map_of text) };
-
-    ghost is_named = { λ _. refl };
 
     ghost doc = { λ v. scopes_member v.0.now };
 
-    fn write(
+    fn emit<'a, S: JsonSink>(
         &self,
-        members: &mut Map<String, Value>,
-        alloc: Global,
+        out: &mut S,
         name: &str,
-    ) -> Result<(), AllocError> {
-        write_required(members, alloc, name, &self.0.scopes)
-    }
-
-    fn is_left_out(&self) -> bool {
-        false
-    }
-
-    fn print(&self, alloc: Global, out: &mut Writer) -> Result<(), AllocError> {
-        self.0.scopes.print(alloc, out)
+        pending: PendingExtensions<'a>,
+    ) -> Result<PendingExtensions<'a>, AllocError> {
+        emit_required(out, name, &self.0.scopes, pending)
     }
 }
 

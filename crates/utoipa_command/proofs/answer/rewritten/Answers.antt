@@ -5,4 +5,4 @@ use Rattle.utoipa_command.proofs.answer.rewritten.Goals as goal
 pub returns-clause-ok : goal.returns-clause-ok
 returns-clause-ok g c =
     let read = c.in_ok-document.ensures in
-    if_ok _ _ c.line.result c.line.ensures.ok (λ line printed. rewritten_as g.T.Tree.kind (view c.args.tree) _ _ read.plain read.ok printed)
+    if_ok _ _ c.line.result c.line.ensures.ok (λ line printed. rewritten_as g.T.Documented.kind (view c.args.tree) _ _ read.plain read.ok printed)

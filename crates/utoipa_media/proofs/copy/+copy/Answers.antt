@@ -55,7 +55,7 @@ clone_encodings-returns t c =
     let first = ap (λ k. list_of_docs encoding_doc k.1) kept
     ∙ made_is (λ l. list_of_docs encoding_doc l ≡ list_of_docs encoding_doc c.args.first.now) _ _ c.clone_encoding_list.ensures c.in_ok-by_name-2.ensures.ok.1 in
     let rest = made_is (λ o. option_of (boxed encoding_doc) o ≡ option_of (boxed encoding_doc) c.args.rest.now) _ _ c.clone_item_encoding.ensures c.in_ok-by_name-3.ensures.ok.1 in
-    same_field _ _ _ _ by_name (same_field _ _ _ _ first (same_field _ _ no_docs no_docs rest refl))
+    same_field _ _ _ _ by_name (same_field _ _ _ _ rest (same_field _ _ no_docs no_docs first refl))
 
 pub clone_header-clone_content_map-requires : goal.clone_header-clone_content_map-requires
 clone_header-clone_content_map-requires t c = (omega (arith, lighter_header c.args.header.now), tt)

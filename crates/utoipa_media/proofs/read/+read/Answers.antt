@@ -1,5 +1,5 @@
 -- The answers of the functions that read contents, encodings and headers.
-use Rattle.std.proofs.Common.{◌≡◌, true, false, [], drop, Ok, Some, None, option_map, string_cmp, sym, ap, ◌∙◌, subst, arith, rules, codes, refl}
+use Rattle.std.proofs.Common.{◌≡◌, true, false, map, not, [], drop, Ok, Some, None, option_map, string_cmp, sym, ap, ◌∙◌, subst, arith, rules, codes, refl}
 use Rattle.std.proofs.lemmas.Grind.{common_steps}
 use Rattle.std.specs.List.Sorted.{IsStrictlySortedBy}
 use Rattle.std.specs.Map.{keys_of}
@@ -22,13 +22,13 @@ use Rattle.utoipa_base.proofs.Readers.{refused_unread, passes_refusal, passes_me
 use Rattle.utoipa_base.proofs.ReadingLists.{list_begun, list_step, list_read}
 use Rattle.utoipa_base.proofs.ReadingMaps.{map_begun, map_step, map_read}
 use Rattle.utoipa_base.proofs.RowLists.{first_refused, later_refused, passes_reads, reads_as}
-use Rattle.utoipa_base.proofs.TableParts.{join-later, no_fields_of_part}
+use Rattle.utoipa_base.proofs.TableParts.{woven-refused, no_fields_of_part}
 use Rattle.utoipa_base.proofs.Tried.{fits_as, fits_not}
 use Rattle.utoipa_media.specs.Docs.{content_doc, encoding_doc, header_doc}
-use Rattle.utoipa_media.specs.Parts.{content_rows, encoding_head_rows, encoding_style_rows, encodings_docs, encodings_rows, header_rows}
+use Rattle.utoipa_media.specs.Parts.{content_order, content_rows, encodings_docs, encodings_rows}
 use Rattle.utoipa_media.proofs.Beside.{list_item_refused, map_entry_refused, reads_fault}
 use Rattle.utoipa_media.proofs.Counts.{encoding_values, header_values}
-use Rattle.utoipa_media.proofs.EncodingParts.{encoding_parts_fewer, encodings_read}
+use Rattle.utoipa_media.proofs.EncodingParts.{encodings_order, other_rows, encoding_parts_fewer, encodings_read}
 use Rattle.utoipa_media.proofs.read.+read.Goals as goal
 
 pub read_encodings_by_name-read_encoding_map-requires : goal.read_encodings_by_name-read_encoding_map-requires
@@ -341,14 +341,14 @@ read_encodings-returns-in_err-by_name t c =
 pub read_encodings-returns-in_err-by_name-2 : goal.read_encodings-returns-in_err-by_name-2
 read_encodings-returns-in_err-by_name-2 t c =
     passes_reads _ _ _ _ _ _ _ _ _ _ _ c.from_residual-in_err-by_name-2.ensures.1 (reads_fault _ _ _ _ _ _ _ c.read_first_encodings.ensures c.in_err-by_name-2.ensures.err)
-    (λ h. later_refused _ _ _ (first_refused _ _ _ h))
+    (λ h. later_refused _ _ _ (later_refused _ _ _ (first_refused _ _ _ h)))
     (omega (arith, c.in_ok-by_name.ensures.grows))
     (omega (arith, c.in_ok-by_name.ensures.at_most))
 
 pub read_encodings-returns-in_err-by_name-3 : goal.read_encodings-returns-in_err-by_name-3
 read_encodings-returns-in_err-by_name-3 t c =
     passes_reads _ _ _ _ _ _ _ _ _ _ _ c.from_residual-in_err-by_name-3.ensures.1 (reads_fault _ _ _ _ _ _ _ c.read_item_encoding.ensures c.in_err-by_name-3.ensures.err)
-    (λ h. later_refused _ _ _ (later_refused _ _ _ (first_refused _ _ _ h)))
+    (λ h. later_refused _ _ _ (first_refused _ _ _ h))
     (omega (arith, c.in_ok-by_name.ensures.grows, c.read_first_encodings.ensures.grows))
     (omega (arith, c.in_ok-by_name.ensures.at_most, c.read_first_encodings.ensures.at_most))
 
@@ -366,9 +366,9 @@ read_encodings-returns t c =
 pub read_content-returns-in_err-encodings : goal.read_content-returns-in_err-encodings
 read_content-returns-in_err-encodings t c =
     passes_reads _ _ _ _ _ _ _ _ _ _ _ c.from_residual.ensures.1 c.in_err-encodings.ensures
-    (λ h. table_refused media_type_object _ (join-later content_rows encodings_rows _ (no_fields_of_part encodings_rows _ h)))
+    (λ h. table_refused media_type_object _ (woven-refused (map not content_order) encodings_rows content_rows _ (no_fields_of_part encodings_rows _ h)))
     (omega arith)
-    (omega (arith, parts_fewer media_type_object content_rows encodings_rows (view c.args.tree.now) refl))
+    (omega (arith, parts_fewer media_type_object content_order content_rows encodings_rows (view c.args.tree.now) refl))
 
 pub read_content-returns : goal.read_content-returns
 read_content-returns t c = c.assemble_content.ensures _ (part_as _ encodings_rows _ c.in_ok-encodings.encodings _ _ c.in_ok-encodings.ensures)
@@ -376,14 +376,14 @@ read_content-returns t c = c.assemble_content.ensures _ (part_as _ encodings_row
 pub read_encoding-returns-in_err-headers : goal.read_encoding-returns-in_err-headers
 read_encoding-returns-in_err-headers t c =
     passes_reads _ _ _ _ _ _ _ _ _ _ _ c.from_residual.ensures.1 c.in_err-headers.ensures
-    (λ h. table_refused encoding_object _ (join-later encoding_head_rows _ _ (fields-first _ _ _ h)))
+    (λ h. table_refused encoding_object _ (fields-later _ _ _ (fields-later _ _ _ (fields-later _ _ _ (fields-later _ _ _ (fields-first _ _ _ h))))))
     (omega arith)
     (omega (arith, encoding_values (view c.args.tree.now)))
 
 pub read_encoding-returns-in_err-headers-2 : goal.read_encoding-returns-in_err-headers-2
 read_encoding-returns-in_err-headers-2 t c =
     passes_reads _ _ _ _ _ _ _ _ _ _ _ c.from_residual-in_err-headers-2.ensures.1 (reads_fault _ _ _ _ _ _ _ c.read_encodings.ensures c.in_err-headers-2.ensures.err)
-    (λ h. table_refused encoding_object _ (join-later encoding_head_rows _ _ (fields-later _ _ _ (join-later encoding_style_rows _ _ (no_fields_of_part encodings_rows _ h)))))
+    (λ h. table_refused encoding_object _ (woven-refused encodings_order encodings_rows other_rows _ (no_fields_of_part encodings_rows _ h)))
     (omega (arith, c.in_ok-headers.ensures.grows))
     (omega (arith, c.in_ok-headers.ensures.at_most, encoding_parts_fewer (view c.args.tree.now)))
 
@@ -398,7 +398,7 @@ read_encoding-returns t c =
 pub read_header-returns-in_err-content : goal.read_header-returns-in_err-content
 read_header-returns-in_err-content t c =
     passes_reads _ _ _ _ _ _ _ _ _ _ _ c.from_residual.ensures.1 c.in_err-content.ensures
-    (λ h. table_refused header_object _ (join-later header_rows _ _ (fields-first _ _ _ h)))
+    (λ h. table_refused header_object _ (fields-first _ _ _ h))
     (omega arith)
     (omega (arith, header_values (view c.args.tree.now)))
 

@@ -9,16 +9,16 @@ use Rattle.utoipa_merging_parts.proofs.lists.join_if_any.Goals.{in-Some-joined, 
 pub with_entries-requires-clause-sound : goal.with_entries-requires-clause-sound
 with_entries-requires-clause-sound g c =
     elim c.match-joined.branch [
-      | in-Some-joined w ↦ subst (IsSound g.T.Tree.doc) (sym w.joined-is) (c.requires.sound _ w.in-Some-joined.is)
-      | in-None w ↦ none_sound g.T.Tree.doc c.match-joined.joined (ap (λ j. j.entries.items) w.joined-is ∙ w.new.ensures.items)
+      | in-Some-joined w ↦ subst (IsSound g.T.Documented.doc) (sym w.joined-is) (c.requires.sound _ w.in-Some-joined.is)
+      | in-None w ↦ none_sound g.T.Documented.doc c.match-joined.joined (ap (λ j. j.entries.items) w.joined-is ∙ w.new.ensures.items)
     ]
 
 pub returns-clause-sound : goal.returns-clause-sound
-returns-clause-sound g c = λ all same. let is : c.in_ok-with_entries.field-0 ≡ all = cc in subst (IsSound g.T.Tree.doc) is c.in_ok-with_entries.ensures.sound
+returns-clause-sound g c = λ all same. let is : c.in_ok-with_entries.field-0 ≡ all = cc in subst (IsSound g.T.Documented.doc) is c.in_ok-with_entries.ensures.sound
 
 pub returns-clause-joined : goal.returns-clause-joined
 returns-clause-joined g c =
-    let f = g.T.Tree.doc in
+    let f = g.T.Documented.doc in
     let docs : map f c.match-joined.joined.entries.items ≡ joined_docs f c.args.joined =
     elim c.match-joined.branch [
       | in-Some-joined w ↦ ap (λ j. map f j.entries.items) w.joined-is ∙ ap (joined_docs f) (sym w.in-Some-joined.is)
@@ -28,4 +28,4 @@ returns-clause-joined g c =
     (subst (λ xs. AreNew (map f xs) (map f c.in-Some.list.items) (map (entry_doc f) c.in_ok-new.new.items)) c.deref.ensures.value c.in_ok-new.ensures.new) c.in_ok-with_entries.ensures.entries
 
 pub new_entries-requires-clause-plain : goal.new_entries-requires-clause-plain
-new_entries-requires-clause-plain g c = list_plain g.T.Tree.doc c.args.list c.in-Some.list c.requires.plain c.in-Some.is
+new_entries-requires-clause-plain g c = list_plain g.T.Documented.doc c.args.list c.in-Some.list c.requires.plain c.in-Some.is

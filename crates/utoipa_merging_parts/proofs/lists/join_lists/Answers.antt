@@ -10,35 +10,35 @@ use Rattle.utoipa_merging_parts.proofs.lists.join_lists.Goals as goal
 pub join_if_any-requires : goal.join_if_any-requires
 join_if_any-requires g c = record {
   sound = c.loop-list.invariant.sound;
-  plain = All-first (λ o. IsPlain (option_of (list_of_docs g.T.Tree.doc) o)) c.in-Some.list c.next.new.self.rest.items c.loop-list.list-iterator.rest.items c.in-Some.ensures.steps.0 c.loop-list.invariant.plain;
+  plain = All-first (λ o. IsPlain (option_of (list_of_docs g.T.Documented.doc) o)) c.in-Some.list c.next.new.self.rest.items c.loop-list.list-iterator.rest.items c.in-Some.ensures.steps.0 c.loop-list.invariant.plain;
 }
 
 pub loop-list-init : goal.loop-list-init
 loop-list-init g c = record {
-  plain = All-same (λ o. IsPlain (option_of (list_of_docs g.T.Tree.doc) o)) _ _ c.into_iter-list-iterator.ensures.into_iter_gives.0 c.requires.plain;
+  plain = All-same (λ o. IsPlain (option_of (list_of_docs g.T.Documented.doc) o)) _ _ c.into_iter-list-iterator.ensures.into_iter_gives.0 c.requires.plain;
   sound = λ j is. cc;
   passed = c.into_iter-list-iterator.ensures.into_iter_gives.0;
-  joined = none_joined g.T.Tree.doc;
+  joined = none_joined g.T.Documented.doc;
 }
 
 pub loop-list-preserved : goal.loop-list-preserved
 loop-list-preserved g c =
     let before = c.loop-list.invariant in
     record {
-      plain = All-rest (λ o. IsPlain (option_of (list_of_docs g.T.Tree.doc) o)) c.in-Some.list c.next.new.self.rest.items c.loop-list.list-iterator.rest.items c.in-Some.ensures.steps.0 before.plain;
+      plain = All-rest (λ o. IsPlain (option_of (list_of_docs g.T.Documented.doc) o)) c.in-Some.list c.next.new.self.rest.items c.loop-list.list-iterator.rest.items c.in-Some.ensures.steps.0 before.plain;
       sound = c.in_ok-joined.ensures.sound;
       passed = append_assoc c.loop-list.yielded (c.in-Some.list ∷ []) c.next.new.self.rest.items ∙ ap (λ l. c.loop-list.yielded ++ l) (sym c.in-Some.ensures.steps.0) ∙ before.passed;
-      joined = one_more g.T.Tree.doc c.loop-list.yielded c.in-Some.list c.loop-list.joined c.in_ok-joined.joined before.joined c.in_ok-joined.ensures.joined;
+      joined = one_more g.T.Documented.doc c.loop-list.yielded c.in-Some.list c.loop-list.joined c.in_ok-joined.joined before.joined c.in_ok-joined.ensures.joined;
     }
 
 pub returns-in-Some-joined : goal.returns-in-Some-joined
 returns-in-Some-joined g c =
     let rest = c.loop-list.list-iterator.rest in
-    all_joined g.T.Tree.doc c.args.lists.items c.loop-list.yielded rest.items c.loop-list.joined (Some c.in-Some-joined.joined) (Some c.in-Some-joined.joined.entries) refl refl c.loop-list.invariant.passed
+    all_joined g.T.Documented.doc c.args.lists.items c.loop-list.yielded rest.items c.loop-list.joined (Some c.in-Some-joined.joined) (Some c.in-Some-joined.joined.entries) refl refl c.loop-list.invariant.passed
     (no_items rest.items rest.len rest.ok.0 c.in-None.ensures.steps.0) c.in-Some-joined.is c.loop-list.invariant.joined
 
 pub returns-in-None-joined : goal.returns-in-None-joined
 returns-in-None-joined g c =
     let rest = c.loop-list.list-iterator.rest in
-    all_joined g.T.Tree.doc c.args.lists.items c.loop-list.yielded rest.items c.loop-list.joined None None refl refl c.loop-list.invariant.passed
+    all_joined g.T.Documented.doc c.args.lists.items c.loop-list.yielded rest.items c.loop-list.joined None None refl refl c.loop-list.invariant.passed
     (no_items rest.items rest.len rest.ok.0 c.in-None.ensures.steps.0) c.in-None-joined.is c.loop-list.invariant.joined

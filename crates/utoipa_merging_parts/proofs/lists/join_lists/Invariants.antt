@@ -8,8 +8,8 @@ use Rattle.utoipa_merging_parts.proofs.lists.join_lists.Given as goal
 
 abbrev pub invariant-loop-list : goal.invariant-loop-list
 invariant-loop-list g l = record {
-  plain : All (λ o. IsPlain (option_of (list_of_docs g.T.Tree.doc) o)) l.list-iterator.rest.items;
-  sound : ForSome l.joined (IsSound g.T.Tree.doc);
+  plain : All (λ o. IsPlain (option_of (list_of_docs g.T.Documented.doc) o)) l.list-iterator.rest.items;
+  sound : ForSome l.joined (IsSound g.T.Documented.doc);
   passed : l.yielded ++ l.list-iterator.rest.items ≡ l.fn.lists.items;
-  joined : AreJoinedSoFar g.T.Tree.doc l.yielded l.joined;
+  joined : AreJoinedSoFar g.T.Documented.doc l.yielded l.joined;
 }

@@ -13,7 +13,7 @@ loop-place-init g c = All-nil (λ d. IsSome (place_of (text_of d) c.new-places.r
 
 pub loop-place-preserved : goal.loop-place-preserved
 loop-place-preserved g c =
-    let f = g.T.Tree.doc in
+    let f = g.T.Documented.doc in
     let entries = c.args.entries.now in
     let place = c.loop-place.place in
     let entry = c.index-entries-place.result in
@@ -22,4 +22,4 @@ loop-place-preserved g c =
     (all_known c.loop-place.places c.insert.new.self c.in_ok-to_json.field-0 place _ (f entry) c.in_ok-insert.ensures.entries (c.in_ok-to_json.ensures (write_plain (f entry) plain)) c.loop-place.invariant)
 
 pub returns : goal.returns
-returns g c = subst (λ es. AreKnown c.loop-place.places (map g.T.Tree.doc es)) (take_all c.loop-place.place c.args.entries.now c.loop-place-test.false) c.loop-place.invariant
+returns g c = subst (λ es. AreKnown c.loop-place.places (map g.T.Documented.doc es)) (take_all c.loop-place.place c.args.entries.now c.loop-place-test.false) c.loop-place.invariant

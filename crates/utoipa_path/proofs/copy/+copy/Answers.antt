@@ -205,13 +205,13 @@ copy_operations-returns t c =
     let other = c.in_ok-copy_other_methods.ensures in
     let further = c.in_ok-copy_further_methods.ensures in
     ap (operations_of operation_doc) (further.4 ∙ ap (with_further further.0 further.1) (other.8 ∙ ap (with_other other.0 other.1 other.2 other.3) main.8))
-    ∙ (same_field _ _ _ _ main.4
-    (same_field _ _ _ _ main.5
-    (same_field _ _ _ _ main.6
+    ∙ (same_field _ _ _ _ further.3
     (same_field _ _ _ _ main.7
-    (same_field _ _ _ _ other.4
+    (same_field _ _ _ _ main.4
     (same_field _ _ _ _ other.5
+    (same_field _ _ _ _ other.4
     (same_field _ _ _ _ other.6
-    (same_field _ _ _ _ other.7
+    (same_field _ _ _ _ main.6
+    (same_field _ _ _ _ main.5
     (same_field _ _ _ _ further.2
-    (same_field _ _ _ _ further.3 refl))))))))))
+    (same_field _ _ _ _ other.7 refl))))))))))

@@ -8,8 +8,8 @@ use Rattle.utoipa_path.proofs.copy.clone_operation_with.Goals as goal
 
 pub returns : goal.returns
 returns c = λ callbacks.
-    let copy = c.in_ok-head.ensures in
-    let kept = ap callbacks_doc copy.2 ∙ callbacks in
+    let copy = c.in_ok-rows.ensures in
+    let kept = ap callbacks_doc copy.1 ∙ callbacks in
     operation_is _ ∙ ap (operation_layer path_item_doc) (out-roll-Operation _)
-    ∙ same_table operation_object _ _ _ _ (same_part _ _ _ _ copy.0 (same_part _ _ _ _ copy.1 (same_field _ _ _ _ kept copy.3))) copy.4
+    ∙ same_table operation_object _ _ _ _ (same_field _ _ _ _ kept (same_part _ _ _ _ copy.0 copy.2)) copy.3
     ∙ sym (operation_is c.args.operation.now)

@@ -1,5 +1,5 @@
 -- The answers of the functions that read operations and path items.
-use Rattle.std.proofs.Common.{◌≡◌, Option, true, false, [], take, drop, Ok, Some, None, option_map, string_cmp, sym, ap, ◌∙◌, subst, arith, rules, codes, refl}
+use Rattle.std.proofs.Common.{◌≡◌, Option, true, false, not, map, [], take, drop, Ok, Some, None, option_map, string_cmp, sym, ap, ◌∙◌, subst, arith, rules, codes, refl}
 use Rattle.std.specs.List.Sorted.{IsStrictlySortedBy}
 use Rattle.std.specs.Map.{keys_of}
 use Rattle.serde_json.specs.Find.{get, as_object}
@@ -21,13 +21,13 @@ use Rattle.utoipa_base.proofs.Places.{own_none, own_places, reference_uncounted}
 use Rattle.utoipa_base.proofs.Readers.{refused_unread, passes_refusal, passes_memory, reads_value, member_fewer, defaulted_read, optional_read, optional_refused, optional_null, optional_absent, entry_fewer}
 use Rattle.utoipa_base.proofs.ReadingMaps.{map_begun, map_step, map_refused, map_within, map_within_next, map_read}
 use Rattle.utoipa_base.proofs.RowLists.{passes_reads, reads_as}
-use Rattle.utoipa_base.proofs.TableParts.{join-later, no_fields_of_part}
+use Rattle.utoipa_base.proofs.TableParts.{woven-refused, no_fields_of_part}
 use Rattle.utoipa_base.proofs.Tried.{fits_as, fits_not}
-use Rattle.utoipa_leaf.specs.declared.path.HttpMethod.TheVariants.{Put, Post, Delete, Options, Head, Patch, Trace}
+use Rattle.utoipa_leaf.specs.declared.path.HttpMethod.TheVariants.{Get, Put, Post, Delete, Options, Head, Patch, Trace}
 use Rattle.utoipa_path.specs.Builders.{PathItemFields, Operations}
-use Rattle.utoipa_path.specs.Docs.{operations_of, operation_doc, path_item_doc, callback_doc, callbacks_doc}
+use Rattle.utoipa_path.specs.Docs.{item_order, operations_of, operation_doc, path_item_doc, callback_doc, callbacks_doc}
 use Rattle.utoipa_path.specs.Methods.{with_method}
-use Rattle.utoipa_path.specs.Parts.{description_rows, message_rows, base_rows, operations_rows}
+use Rattle.utoipa_path.specs.Parts.{base_rows, operations_rows}
 use Rattle.utoipa_path.specs.declared.types.Operation.{Operation}
 use Rattle.utoipa_path.specs.declared.types.PathItem.{out-PathItem, out-roll-PathItem}
 use Rattle.utoipa_path.proofs.Built.{err_of, reads_where_done}
@@ -303,7 +303,7 @@ read_ref_or_callback-returns t c =
 pub read_operation-returns-in_err-callbacks : goal.read_operation-returns-in_err-callbacks
 read_operation-returns-in_err-callbacks t c =
     passes_reads _ _ _ _ _ _ _ _ _ _ _ c.from_residual.ensures.1 c.in_err-callbacks.ensures
-    (λ h. table_refused operation_object _ (join-later description_rows _ _ (join-later message_rows _ _ (fields-first _ _ _ h))))
+    (λ h. table_refused operation_object _ (fields-first _ _ _ h))
     (omega arith)
     (omega (arith, callbacks_fewer (view c.args.tree.now)))
 
@@ -313,9 +313,9 @@ read_operation-returns t c = c.assemble_operation.ensures _ c.in_ok-callbacks.en
 pub read_path_item-returns-in_err-item : goal.read_path_item-returns-in_err-item
 read_path_item-returns-in_err-item t c =
     passes_reads _ _ _ _ _ _ _ _ _ _ _ c.from_residual.ensures.1 c.in_err-item.ensures
-    (λ h. table_refused path_item_object _ (join-later base_rows operations_rows _ (no_fields_of_part operations_rows _ h)))
+    (λ h. table_refused path_item_object _ (woven-refused (map not item_order) operations_rows base_rows _ (no_fields_of_part operations_rows _ h)))
     (omega arith)
-    (omega (arith, parts_fewer path_item_object base_rows operations_rows (view c.args.tree.now) refl))
+    (omega (arith, parts_fewer path_item_object (map not item_order) operations_rows base_rows (view c.args.tree.now) refl))
 
 pub read_path_item-returns : goal.read_path_item-returns
 read_path_item-returns t c = c.assemble_path_item.ensures _ c.in_ok-item.ensures
@@ -365,101 +365,100 @@ fill_additional_operations-returns t c =
       err = tt;
     }
 
-pub fill_operations-returns-in_err-fill_method : goal.fill_operations-returns-in_err-fill_method
-fill_operations-returns-in_err-fill_method t c =
-    passes_reads _ _ _ _ _ _ _ _ _ _ _ c.from_residual.ensures.1 c.in_err-fill_method.ensures.err
-    (λ h. refused_among [] (method_row (codes "get")) (drop 1 operations_rows) _ h)
+pub fill_operations-returns-in_err-fill_additional_operations : goal.fill_operations-returns-in_err-fill_additional_operations
+fill_operations-returns-in_err-fill_additional_operations t c =
+    passes_reads _ _ _ _ _ _ _ _ _ _ _ c.from_residual.ensures.1 c.in_err-fill_additional_operations.ensures.err
+    (λ h. refused_among [] additional_row (drop 1 operations_rows) _ h)
     (omega arith)
     (omega (arith, operations_values (view c.args.tree.now)))
+
+pub fill_operations-returns-in_err-fill_method : goal.fill_operations-returns-in_err-fill_method
+fill_operations-returns-in_err-fill_method t c =
+    passes_reads _ _ _ _ _ _ _ _ _ _ _ c.from_residual-in_err-fill_method.ensures.1 c.in_err-fill_method.ensures.err
+    (λ h. refused_among (take 1 operations_rows) (method_row (codes "delete")) (drop 2 operations_rows) _ h)
+    (omega (arith, c.in_ok-fill_additional_operations.ensures.ok.1.grows))
+    (omega (arith, operations_values (view c.args.tree.now), c.in_ok-fill_additional_operations.ensures.ok.1.at_most))
 
 pub fill_operations-returns-in_err-fill_method-2 : goal.fill_operations-returns-in_err-fill_method-2
 fill_operations-returns-in_err-fill_method-2 t c =
     passes_reads _ _ _ _ _ _ _ _ _ _ _ c.from_residual-in_err-fill_method-2.ensures.1 c.in_err-fill_method-2.ensures.err
-    (λ h. refused_among (take 1 operations_rows) (method_row (codes "put")) (drop 2 operations_rows) _ h)
-    (omega (arith, c.in_ok-fill_method.ensures.ok.1.grows))
-    (omega (arith, operations_values (view c.args.tree.now), c.in_ok-fill_method.ensures.ok.1.at_most))
+    (λ h. refused_among (take 2 operations_rows) (method_row (codes "get")) (drop 3 operations_rows) _ h)
+    (omega (arith, c.in_ok-fill_additional_operations.ensures.ok.1.grows, c.in_ok-fill_method.ensures.ok.1.grows))
+    (omega (arith, operations_values (view c.args.tree.now), c.in_ok-fill_additional_operations.ensures.ok.1.at_most, c.in_ok-fill_method.ensures.ok.1.at_most))
 
 pub fill_operations-returns-in_err-fill_method-3 : goal.fill_operations-returns-in_err-fill_method-3
 fill_operations-returns-in_err-fill_method-3 t c =
     passes_reads _ _ _ _ _ _ _ _ _ _ _ c.from_residual-in_err-fill_method-3.ensures.1 c.in_err-fill_method-3.ensures.err
-    (λ h. refused_among (take 2 operations_rows) (method_row (codes "post")) (drop 3 operations_rows) _ h)
-    (omega (arith, c.in_ok-fill_method.ensures.ok.1.grows, c.in_ok-fill_method-2.ensures.ok.1.grows))
-    (omega (arith, operations_values (view c.args.tree.now), c.in_ok-fill_method.ensures.ok.1.at_most, c.in_ok-fill_method-2.ensures.ok.1.at_most))
+    (λ h. refused_among (take 3 operations_rows) (method_row (codes "head")) (drop 4 operations_rows) _ h)
+    (omega (arith, c.in_ok-fill_additional_operations.ensures.ok.1.grows, c.in_ok-fill_method.ensures.ok.1.grows, c.in_ok-fill_method-2.ensures.ok.1.grows))
+    (omega (arith, operations_values (view c.args.tree.now), c.in_ok-fill_additional_operations.ensures.ok.1.at_most, c.in_ok-fill_method.ensures.ok.1.at_most, c.in_ok-fill_method-2.ensures.ok.1.at_most))
 
 pub fill_operations-returns-in_err-fill_method-4 : goal.fill_operations-returns-in_err-fill_method-4
 fill_operations-returns-in_err-fill_method-4 t c =
     passes_reads _ _ _ _ _ _ _ _ _ _ _ c.from_residual-in_err-fill_method-4.ensures.1 c.in_err-fill_method-4.ensures.err
-    (λ h. refused_among (take 3 operations_rows) (method_row (codes "delete")) (drop 4 operations_rows) _ h)
-    (omega (arith, c.in_ok-fill_method.ensures.ok.1.grows, c.in_ok-fill_method-2.ensures.ok.1.grows, c.in_ok-fill_method-3.ensures.ok.1.grows))
-    (omega (arith, operations_values (view c.args.tree.now), c.in_ok-fill_method.ensures.ok.1.at_most, c.in_ok-fill_method-2.ensures.ok.1.at_most, c.in_ok-fill_method-3.ensures.ok.1.at_most))
+    (λ h. refused_among (take 4 operations_rows) (method_row (codes "options")) (drop 5 operations_rows) _ h)
+    (omega (arith, c.in_ok-fill_additional_operations.ensures.ok.1.grows, c.in_ok-fill_method.ensures.ok.1.grows, c.in_ok-fill_method-2.ensures.ok.1.grows, c.in_ok-fill_method-3.ensures.ok.1.grows))
+    (omega (arith, operations_values (view c.args.tree.now), c.in_ok-fill_additional_operations.ensures.ok.1.at_most, c.in_ok-fill_method.ensures.ok.1.at_most, c.in_ok-fill_method-2.ensures.ok.1.at_most, c.in_ok-fill_method-3.ensures.ok.1.at_most))
 
 pub fill_operations-returns-in_err-fill_method-5 : goal.fill_operations-returns-in_err-fill_method-5
 fill_operations-returns-in_err-fill_method-5 t c =
     passes_reads _ _ _ _ _ _ _ _ _ _ _ c.from_residual-in_err-fill_method-5.ensures.1 c.in_err-fill_method-5.ensures.err
-    (λ h. refused_among (take 4 operations_rows) (method_row (codes "options")) (drop 5 operations_rows) _ h)
-    (omega (arith, c.in_ok-fill_method.ensures.ok.1.grows, c.in_ok-fill_method-2.ensures.ok.1.grows, c.in_ok-fill_method-3.ensures.ok.1.grows, c.in_ok-fill_method-4.ensures.ok.1.grows))
-    (omega (arith, operations_values (view c.args.tree.now), c.in_ok-fill_method.ensures.ok.1.at_most, c.in_ok-fill_method-2.ensures.ok.1.at_most, c.in_ok-fill_method-3.ensures.ok.1.at_most, c.in_ok-fill_method-4.ensures.ok.1.at_most))
+    (λ h. refused_among (take 5 operations_rows) (method_row (codes "patch")) (drop 6 operations_rows) _ h)
+    (omega (arith, c.in_ok-fill_additional_operations.ensures.ok.1.grows, c.in_ok-fill_method.ensures.ok.1.grows, c.in_ok-fill_method-2.ensures.ok.1.grows, c.in_ok-fill_method-3.ensures.ok.1.grows, c.in_ok-fill_method-4.ensures.ok.1.grows))
+    (omega (arith, operations_values (view c.args.tree.now), c.in_ok-fill_additional_operations.ensures.ok.1.at_most, c.in_ok-fill_method.ensures.ok.1.at_most, c.in_ok-fill_method-2.ensures.ok.1.at_most, c.in_ok-fill_method-3.ensures.ok.1.at_most, c.in_ok-fill_method-4.ensures.ok.1.at_most))
 
 pub fill_operations-returns-in_err-fill_method-6 : goal.fill_operations-returns-in_err-fill_method-6
 fill_operations-returns-in_err-fill_method-6 t c =
     passes_reads _ _ _ _ _ _ _ _ _ _ _ c.from_residual-in_err-fill_method-6.ensures.1 c.in_err-fill_method-6.ensures.err
-    (λ h. refused_among (take 5 operations_rows) (method_row (codes "head")) (drop 6 operations_rows) _ h)
-    (omega (arith, c.in_ok-fill_method.ensures.ok.1.grows, c.in_ok-fill_method-2.ensures.ok.1.grows, c.in_ok-fill_method-3.ensures.ok.1.grows, c.in_ok-fill_method-4.ensures.ok.1.grows, c.in_ok-fill_method-5.ensures.ok.1.grows))
-    (omega (arith, operations_values (view c.args.tree.now), c.in_ok-fill_method.ensures.ok.1.at_most, c.in_ok-fill_method-2.ensures.ok.1.at_most, c.in_ok-fill_method-3.ensures.ok.1.at_most, c.in_ok-fill_method-4.ensures.ok.1.at_most, c.in_ok-fill_method-5.ensures.ok.1.at_most))
+    (λ h. refused_among (take 6 operations_rows) (method_row (codes "post")) (drop 7 operations_rows) _ h)
+    (omega (arith, c.in_ok-fill_additional_operations.ensures.ok.1.grows, c.in_ok-fill_method.ensures.ok.1.grows, c.in_ok-fill_method-2.ensures.ok.1.grows, c.in_ok-fill_method-3.ensures.ok.1.grows, c.in_ok-fill_method-4.ensures.ok.1.grows, c.in_ok-fill_method-5.ensures.ok.1.grows))
+    (omega (arith, operations_values (view c.args.tree.now), c.in_ok-fill_additional_operations.ensures.ok.1.at_most, c.in_ok-fill_method.ensures.ok.1.at_most, c.in_ok-fill_method-2.ensures.ok.1.at_most, c.in_ok-fill_method-3.ensures.ok.1.at_most, c.in_ok-fill_method-4.ensures.ok.1.at_most, c.in_ok-fill_method-5.ensures.ok.1.at_most))
 
 pub fill_operations-returns-in_err-fill_method-7 : goal.fill_operations-returns-in_err-fill_method-7
 fill_operations-returns-in_err-fill_method-7 t c =
     passes_reads _ _ _ _ _ _ _ _ _ _ _ c.from_residual-in_err-fill_method-7.ensures.1 c.in_err-fill_method-7.ensures.err
-    (λ h. refused_among (take 6 operations_rows) (method_row (codes "patch")) (drop 7 operations_rows) _ h)
-    (omega (arith, c.in_ok-fill_method.ensures.ok.1.grows, c.in_ok-fill_method-2.ensures.ok.1.grows, c.in_ok-fill_method-3.ensures.ok.1.grows, c.in_ok-fill_method-4.ensures.ok.1.grows, c.in_ok-fill_method-5.ensures.ok.1.grows, c.in_ok-fill_method-6.ensures.ok.1.grows))
-    (omega (arith, operations_values (view c.args.tree.now), c.in_ok-fill_method.ensures.ok.1.at_most, c.in_ok-fill_method-2.ensures.ok.1.at_most, c.in_ok-fill_method-3.ensures.ok.1.at_most, c.in_ok-fill_method-4.ensures.ok.1.at_most, c.in_ok-fill_method-5.ensures.ok.1.at_most, c.in_ok-fill_method-6.ensures.ok.1.at_most))
-
-pub fill_operations-returns-in_err-fill_method-8 : goal.fill_operations-returns-in_err-fill_method-8
-fill_operations-returns-in_err-fill_method-8 t c =
-    passes_reads _ _ _ _ _ _ _ _ _ _ _ c.from_residual-in_err-fill_method-8.ensures.1 c.in_err-fill_method-8.ensures.err
-    (λ h. refused_among (take 7 operations_rows) (method_row (codes "trace")) (drop 8 operations_rows) _ h)
-    (omega (arith, c.in_ok-fill_method.ensures.ok.1.grows, c.in_ok-fill_method-2.ensures.ok.1.grows, c.in_ok-fill_method-3.ensures.ok.1.grows, c.in_ok-fill_method-4.ensures.ok.1.grows, c.in_ok-fill_method-5.ensures.ok.1.grows, c.in_ok-fill_method-6.ensures.ok.1.grows, c.in_ok-fill_method-7.ensures.ok.1.grows))
-    (omega (arith, operations_values (view c.args.tree.now), c.in_ok-fill_method.ensures.ok.1.at_most, c.in_ok-fill_method-2.ensures.ok.1.at_most, c.in_ok-fill_method-3.ensures.ok.1.at_most, c.in_ok-fill_method-4.ensures.ok.1.at_most, c.in_ok-fill_method-5.ensures.ok.1.at_most, c.in_ok-fill_method-6.ensures.ok.1.at_most, c.in_ok-fill_method-7.ensures.ok.1.at_most))
+    (λ h. refused_among (take 7 operations_rows) (method_row (codes "put")) (drop 8 operations_rows) _ h)
+    (omega (arith, c.in_ok-fill_additional_operations.ensures.ok.1.grows, c.in_ok-fill_method.ensures.ok.1.grows, c.in_ok-fill_method-2.ensures.ok.1.grows, c.in_ok-fill_method-3.ensures.ok.1.grows, c.in_ok-fill_method-4.ensures.ok.1.grows, c.in_ok-fill_method-5.ensures.ok.1.grows, c.in_ok-fill_method-6.ensures.ok.1.grows))
+    (omega (arith, operations_values (view c.args.tree.now), c.in_ok-fill_additional_operations.ensures.ok.1.at_most, c.in_ok-fill_method.ensures.ok.1.at_most, c.in_ok-fill_method-2.ensures.ok.1.at_most, c.in_ok-fill_method-3.ensures.ok.1.at_most, c.in_ok-fill_method-4.ensures.ok.1.at_most, c.in_ok-fill_method-5.ensures.ok.1.at_most, c.in_ok-fill_method-6.ensures.ok.1.at_most))
 
 pub fill_operations-returns-in_err-fill_query : goal.fill_operations-returns-in_err-fill_query
 fill_operations-returns-in_err-fill_query t c =
     passes_reads _ _ _ _ _ _ _ _ _ _ _ c.from_residual-in_err-fill_query.ensures.1 c.in_err-fill_query.ensures.err
     (λ h. refused_among (take 8 operations_rows) (method_row (codes "query")) (drop 9 operations_rows) _ h)
-    (omega (arith, c.in_ok-fill_method.ensures.ok.1.grows, c.in_ok-fill_method-2.ensures.ok.1.grows, c.in_ok-fill_method-3.ensures.ok.1.grows, c.in_ok-fill_method-4.ensures.ok.1.grows, c.in_ok-fill_method-5.ensures.ok.1.grows, c.in_ok-fill_method-6.ensures.ok.1.grows, c.in_ok-fill_method-7.ensures.ok.1.grows, c.in_ok-fill_method-8.ensures.ok.1.grows))
-    (omega (arith, operations_values (view c.args.tree.now), c.in_ok-fill_method.ensures.ok.1.at_most, c.in_ok-fill_method-2.ensures.ok.1.at_most, c.in_ok-fill_method-3.ensures.ok.1.at_most, c.in_ok-fill_method-4.ensures.ok.1.at_most, c.in_ok-fill_method-5.ensures.ok.1.at_most, c.in_ok-fill_method-6.ensures.ok.1.at_most, c.in_ok-fill_method-7.ensures.ok.1.at_most, c.in_ok-fill_method-8.ensures.ok.1.at_most))
+    (omega (arith, c.in_ok-fill_additional_operations.ensures.ok.1.grows, c.in_ok-fill_method.ensures.ok.1.grows, c.in_ok-fill_method-2.ensures.ok.1.grows, c.in_ok-fill_method-3.ensures.ok.1.grows, c.in_ok-fill_method-4.ensures.ok.1.grows, c.in_ok-fill_method-5.ensures.ok.1.grows, c.in_ok-fill_method-6.ensures.ok.1.grows, c.in_ok-fill_method-7.ensures.ok.1.grows))
+    (omega (arith, operations_values (view c.args.tree.now), c.in_ok-fill_additional_operations.ensures.ok.1.at_most, c.in_ok-fill_method.ensures.ok.1.at_most, c.in_ok-fill_method-2.ensures.ok.1.at_most, c.in_ok-fill_method-3.ensures.ok.1.at_most, c.in_ok-fill_method-4.ensures.ok.1.at_most, c.in_ok-fill_method-5.ensures.ok.1.at_most, c.in_ok-fill_method-6.ensures.ok.1.at_most, c.in_ok-fill_method-7.ensures.ok.1.at_most))
 
-pub fill_operations-returns-in_err-fill_additional_operations : goal.fill_operations-returns-in_err-fill_additional_operations
-fill_operations-returns-in_err-fill_additional_operations t c =
-    passes_reads _ _ _ _ _ _ _ _ _ _ _ c.from_residual-in_err-fill_additional_operations.ensures.1 c.in_err-fill_additional_operations.ensures.err
-    (λ h. refused_among (take 9 operations_rows) additional_row [] _ h)
-    (omega (arith, c.in_ok-fill_method.ensures.ok.1.grows, c.in_ok-fill_method-2.ensures.ok.1.grows, c.in_ok-fill_method-3.ensures.ok.1.grows, c.in_ok-fill_method-4.ensures.ok.1.grows, c.in_ok-fill_method-5.ensures.ok.1.grows, c.in_ok-fill_method-6.ensures.ok.1.grows, c.in_ok-fill_method-7.ensures.ok.1.grows, c.in_ok-fill_method-8.ensures.ok.1.grows, c.in_ok-fill_query.ensures.ok.1.grows))
-    (omega (arith, operations_values (view c.args.tree.now), c.in_ok-fill_method.ensures.ok.1.at_most, c.in_ok-fill_method-2.ensures.ok.1.at_most, c.in_ok-fill_method-3.ensures.ok.1.at_most, c.in_ok-fill_method-4.ensures.ok.1.at_most, c.in_ok-fill_method-5.ensures.ok.1.at_most, c.in_ok-fill_method-6.ensures.ok.1.at_most, c.in_ok-fill_method-7.ensures.ok.1.at_most, c.in_ok-fill_method-8.ensures.ok.1.at_most, c.in_ok-fill_query.ensures.ok.1.at_most))
+pub fill_operations-returns-in_err-fill_method-8 : goal.fill_operations-returns-in_err-fill_method-8
+fill_operations-returns-in_err-fill_method-8 t c =
+    passes_reads _ _ _ _ _ _ _ _ _ _ _ c.from_residual-in_err-fill_method-8.ensures.1 c.in_err-fill_method-8.ensures.err
+    (λ h. refused_among (take 9 operations_rows) (method_row (codes "trace")) [] _ h)
+    (omega (arith, c.in_ok-fill_additional_operations.ensures.ok.1.grows, c.in_ok-fill_method.ensures.ok.1.grows, c.in_ok-fill_method-2.ensures.ok.1.grows, c.in_ok-fill_method-3.ensures.ok.1.grows, c.in_ok-fill_method-4.ensures.ok.1.grows, c.in_ok-fill_method-5.ensures.ok.1.grows, c.in_ok-fill_method-6.ensures.ok.1.grows, c.in_ok-fill_method-7.ensures.ok.1.grows, c.in_ok-fill_query.ensures.ok.1.grows))
+    (omega (arith, operations_values (view c.args.tree.now), c.in_ok-fill_additional_operations.ensures.ok.1.at_most, c.in_ok-fill_method.ensures.ok.1.at_most, c.in_ok-fill_method-2.ensures.ok.1.at_most, c.in_ok-fill_method-3.ensures.ok.1.at_most, c.in_ok-fill_method-4.ensures.ok.1.at_most, c.in_ok-fill_method-5.ensures.ok.1.at_most, c.in_ok-fill_method-6.ensures.ok.1.at_most, c.in_ok-fill_method-7.ensures.ok.1.at_most, c.in_ok-fill_query.ensures.ok.1.at_most))
 
 pub fill_operations-returns : goal.fill_operations-returns
 fill_operations-returns t c =
-    let get = c.in_ok-fill_method.ensures.ok in
-    let put = c.in_ok-fill_method-2.ensures.ok in
-    let post = c.in_ok-fill_method-3.ensures.ok in
-    let delete = c.in_ok-fill_method-4.ensures.ok in
-    let options = c.in_ok-fill_method-5.ensures.ok in
-    let head = c.in_ok-fill_method-6.ensures.ok in
-    let patch = c.in_ok-fill_method-7.ensures.ok in
-    let trace = c.in_ok-fill_method-8.ensures.ok in
-    let query = c.in_ok-fill_query.ensures.ok in
     let additional = c.in_ok-fill_additional_operations.ensures.ok in
-    let methods = trace.2 ∙ ap (with_method Trace trace.0) (patch.2 ∙ ap (with_method Patch patch.0) (head.2 ∙ ap (with_method Head head.0) (options.2 ∙ ap (with_method Options options.0) (delete.2 ∙ ap (with_method Delete delete.0) (post.2 ∙ ap (with_method Post post.0) (put.2 ∙ ap (with_method Put put.0) (get.2))))))) in
-    let filled = additional.2 ∙ ap (with_additional additional.0) (query.2 ∙ ap (with_query query.0) methods) in
+    let delete = c.in_ok-fill_method.ensures.ok in
+    let get = c.in_ok-fill_method-2.ensures.ok in
+    let head = c.in_ok-fill_method-3.ensures.ok in
+    let options = c.in_ok-fill_method-4.ensures.ok in
+    let patch = c.in_ok-fill_method-5.ensures.ok in
+    let post = c.in_ok-fill_method-6.ensures.ok in
+    let put = c.in_ok-fill_method-7.ensures.ok in
+    let query = c.in_ok-fill_query.ensures.ok in
+    let trace = c.in_ok-fill_method-8.ensures.ok in
+    let filled = trace.2 ∙ ap (with_method Trace trace.0) (query.2 ∙ ap (with_query query.0) (put.2 ∙ ap (with_method Put put.0) (post.2 ∙ ap (with_method Post post.0) (patch.2 ∙ ap (with_method Patch patch.0) (options.2 ∙ ap (with_method Options options.0) (head.2 ∙ ap (with_method Head head.0) (get.2 ∙ ap (with_method Get get.0) (delete.2 ∙ ap (with_method Delete delete.0) (additional.2))))))))) in
     let all = operations_read (view c.args.tree.now) _ _ _ _ _ _ _ _ _ _ _ _ _ _ _ _ _ _ _ _ _
-    get.1
-    put.1
-    post.1
+    additional.1
     delete.1
-    options.1
+    get.1
     head.1
+    options.1
     patch.1
-    trace.1
+    post.1
+    put.1
     query.1
-    additional.1 in
+    trace.1 in
     reads_as list_doc _ _ _ _ _ _ _ (ap (λ i. list_doc (operations_of operation_doc i)) (sym filled)) all
 
 pub read_callback-fill_callback-requires : goal.read_callback-fill_callback-requires

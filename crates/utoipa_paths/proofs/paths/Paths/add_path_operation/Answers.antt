@@ -1,22 +1,17 @@
-use Rattle.std.proofs.Common.{◌≡◌, ◌∙◌, ℕ, List, refl, sym, ap, subst, string_bytes, cond, Some, IsSome}
+use Rattle.std.proofs.Common.{◌≡◌, ◌∙◌, ℕ, List, refl, sym, ap, subst, cond, Some, IsSome}
 use Rattle.std.specs.Str.{bytes_eq}
 use Rattle.std.specs.BTreeMap.{get_by_text}
 use Rattle.std.proofs.lemmas.Map.Text.{btree_map_updates_text}
+use Rattle.std.proofs.lemmas.Result.{on_ok_weaker, on_err_weaker}
 use Rattle.utoipa_path.specs.Docs.{operation_doc}
 use Rattle.utoipa_path.specs.Methods.{HoldAtMethods}
 use Rattle.utoipa_path.specs.declared.types.PathItem.{PathItem, out-PathItem}
-use Rattle.utoipa_paths.proofs.Refused.{on_err_if}
-use Rattle.utoipa_paths.specs.Items.{IsInOrderIfAny}
+use Rattle.utoipa_paths.specs.Items.{IsInOrderIfAny, AreItemsInOrder}
 use Rattle.utoipa_paths.specs.Paths.{AreFieldsOf}
-use Rattle.utoipa_paths.proofs.ItemSteps.{put_in_order}
+use Rattle.utoipa_paths.proofs.ItemSteps.{put_in_order, put_or_kept_in_order}
 use Rattle.utoipa_paths.proofs.OperationAdded.{vector_drained, taken_over, still_in_order, new_in_order}
 use Rattle.utoipa_paths.proofs.PathsViews.{paths_in_order, items_in_order, same_paths}
 use Rattle.utoipa_paths.proofs.paths.Paths.add_path_operation.Goals as goal
-
-pub returns-in_err-from_str-in-None-clause-err : goal.returns-in_err-from_str-in-None-clause-err
-returns-in_err-from_str-in-None-clause-err c =
-    on_err_if c.from_residual-in_err-from_str-in-None.result
-    (same_paths (record { paths = c.get_mut.follows.lender-at-none; extensions = c.args.self.now.extensions }) c.args.self.now (ap (λ m. m.entries) c.get_mut.follows.holds-at-none) refl)
 
 -- ---- where an item stands
 
@@ -53,29 +48,32 @@ returns-in-Some-clause-ordered c = λ before.
 
 -- ---- where none does
 
-put_there : (c : goal.After-drop-in-None) (q : List ℕ) → get_by_text c.insert.new.self q ≡ cond (bytes_eq c.args.path.now q) (Some c.in_ok-item.item) (get_by_text c.args.self.now.paths q)
-put_there c q =
-    let name = string_bytes c.in_ok-from_str-in-None.field-0 in
-    let text : name ≡ c.args.path.now = c.in_ok-from_str-in-None.ensures.ok in
-    btree_map_updates_text name c.get_mut.follows.lender-at-none c.insert.new.self _ c.in_ok-insert-in-None.ensures.updates q
-    ∙ ap (λ m. cond (bytes_eq name q) (Some c.in_ok-item.item) (get_by_text m q)) c.get_mut.follows.holds-at-none
-    ∙ ap (λ t. cond (bytes_eq t q) (Some c.in_ok-item.item) (get_by_text c.args.self.now.paths q)) text
-
-pub returns-in_ok-insert-in-None-clause-ok : goal.returns-in_ok-insert-in-None-clause-ok
-returns-in_ok-insert-in-None-clause-ok c =
+pub returns-in-None-clause-ok : goal.returns-in-None-clause-ok
+returns-in-None-clause-ok c =
     let made = c.in_ok-item.ensures in
     let given = vector_drained c.into_iter.result c.args.methods.items made.0 c.into_iter.ensures.rest (c.into_iter.ensures.len ∙ c.args.methods.ok.0) made.2 in
+    on_ok_weaker c.put_under.result
+    (λ put.
     record {
       now = c.in_ok-item.item;
       before = made.1;
       stood = subst (λ o. AreFieldsOf o made.1) c.in-None.ensures.value made.3;
       added = subst (λ ms. HoldAtMethods ms (operation_doc c.args.operation) made.1 (out-PathItem c.in_ok-item.item)) given made.4;
-      items = put_there c;
+      items = λ q. put.values q ∙ ap (λ m. cond (bytes_eq c.args.path.now q) (Some c.in_ok-item.item) (get_by_text m q)) c.get_mut.follows.holds-at-none;
       extensions = refl;
-    }
+    })
+    c.put_under.ensures.ok
 
-pub returns-in_ok-insert-in-None-clause-ordered : goal.returns-in_ok-insert-in-None-clause-ordered
-returns-in_ok-insert-in-None-clause-ordered c = λ before.
+pub returns-in-None-clause-err : goal.returns-in-None-clause-err
+returns-in-None-clause-err c =
+    on_err_weaker c.put_under.result
+    (λ kept. same_paths (record { paths = c.put_under.new.map; extensions = c.args.self.now.extensions }) c.args.self.now (kept ∙ ap (λ m. m.entries) c.get_mut.follows.holds-at-none) refl)
+    c.put_under.ensures.err
+
+pub returns-in-None-clause-ordered : goal.returns-in-None-clause-ordered
+returns-in-None-clause-ordered c = λ before.
     let made = c.in_ok-item.ensures in
-    paths_in_order (record { paths = c.insert.new.self; extensions = c.args.self.now.extensions })
-    (put_in_order c.args.self.now.paths c.insert.new.self c.args.path.now c.in_ok-item.item (items_in_order c.args.self.now before) c.in_ok-insert-in-None.ensures.ordered (new_in_order made.1 c.in_ok-item.item made.3 made.4.rest) (put_there c)) before.extensions
+    let items = subst AreItemsInOrder (sym c.get_mut.follows.holds-at-none) (items_in_order c.args.self.now before) in
+    paths_in_order (record { paths = c.put_under.new.map; extensions = c.args.self.now.extensions })
+    (put_or_kept_in_order c.put_under.result c.get_mut.follows.lender-at-none c.put_under.new.map c.args.path.now c.in_ok-item.item items (new_in_order made.1 c.in_ok-item.item made.3 made.4.rest) c.put_under.ensures.ok c.put_under.ensures.err)
+    before.extensions

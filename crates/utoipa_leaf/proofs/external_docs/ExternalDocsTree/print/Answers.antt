@@ -1,6 +1,0 @@
--- Written by tools/answers.py utoipa_leaf external_docs ExternalDocs
-use Rattle.std.proofs.Common.{refl}
-use Rattle.utoipa_leaf.proofs.external_docs.ExternalDocsTree.print.Goals as goal
-
-pub returns : goal.returns
-returns c = c.print_table.ensures _ refl

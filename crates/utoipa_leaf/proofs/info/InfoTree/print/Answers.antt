@@ -1,6 +1,0 @@
--- Written by tools/answers.py utoipa_leaf info Info
-use Rattle.std.proofs.Common.{refl}
-use Rattle.utoipa_leaf.proofs.info.InfoTree.print.Goals as goal
-
-pub returns : goal.returns
-returns c = c.print_table.ensures _ refl

@@ -1,0 +1,6 @@
+-- Written by tools/answers.py utoipa_leaf info License
+use Rattle.std.proofs.Common.{refl}
+use Rattle.utoipa_leaf.proofs.info.LicenseEmit.emit.Goals as goal
+
+pub returns : goal.returns
+returns g c = c.emit_table.ensures _ refl

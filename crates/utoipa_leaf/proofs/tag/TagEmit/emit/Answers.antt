@@ -1,0 +1,6 @@
+-- Written by tools/answers.py utoipa_leaf tag Tag
+use Rattle.std.proofs.Common.{refl}
+use Rattle.utoipa_leaf.proofs.tag.TagEmit.emit.Goals as goal
+
+pub returns : goal.returns
+returns g c = c.emit_table.ensures _ refl

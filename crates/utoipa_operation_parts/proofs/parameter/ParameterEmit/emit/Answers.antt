@@ -1,0 +1,6 @@
+-- Written by tools/answers.py utoipa_operation_parts parameter Parameter
+use Rattle.std.proofs.Common.{refl}
+use Rattle.utoipa_operation_parts.proofs.parameter.ParameterEmit.emit.Goals as goal
+
+pub returns : goal.returns
+returns g c = c.emit_table.ensures _ refl

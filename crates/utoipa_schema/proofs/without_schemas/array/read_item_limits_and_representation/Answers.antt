@@ -1,4 +1,0 @@
-use Rattle.utoipa_schema.proofs.without_schemas.array.read_item_limits_and_representation.Goals as goal
-
-pub returns-clause-ok : goal.returns-clause-ok
-returns-clause-ok c = c.in_ok-fields.ensures.ok

@@ -1,0 +1,4 @@
+use Rattle.utoipa_schema.proofs.without_schemas.object.read_object_end.Goals as goal
+
+pub returns-clause-ok : goal.returns-clause-ok
+returns-clause-ok c = c.in_ok-fields.ensures.ok

@@ -1,4 +1,0 @@
-use Rattle.utoipa_schema.proofs.without_schemas.object.read_size_limits_and_content.Goals as goal
-
-pub returns-clause-ok : goal.returns-clause-ok
-returns-clause-ok c = c.in_ok-fields.ensures.ok

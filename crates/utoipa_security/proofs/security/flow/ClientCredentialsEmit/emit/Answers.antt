@@ -1,0 +1,6 @@
+-- Written by tools/answers.py utoipa_security security/flow ClientCredentials
+use Rattle.std.proofs.Common.{refl}
+use Rattle.utoipa_security.proofs.security.flow.ClientCredentialsEmit.emit.Goals as goal
+
+pub returns : goal.returns
+returns g c = c.emit_table.ensures _ refl

@@ -1,6 +1,0 @@
--- Written by tools/answers.py utoipa_security security/flow DeviceAuthorization
-use Rattle.std.proofs.Common.{refl}
-use Rattle.utoipa_security.proofs.security.flow.DeviceAuthorizationTree.print.Goals as goal
-
-pub returns : goal.returns
-returns c = c.print_table.ensures _ refl

@@ -1,0 +1,5 @@
+use Rattle.std.proofs.Common.{refl}
+use Rattle.utoipa_security.proofs.security.http.Http.emit_typed.Goals as goal
+
+pub returns : goal.returns
+returns g c = c.emit_table.ensures _ refl

@@ -1,5 +1,0 @@
-use Rattle.std.proofs.Common.{refl}
-use Rattle.utoipa_security.proofs.security.oauth2.OAuth2.print_typed.Goals as goal
-
-pub returns : goal.returns
-returns c = c.print_table.ensures _ refl

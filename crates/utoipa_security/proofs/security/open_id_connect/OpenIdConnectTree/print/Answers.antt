@@ -1,6 +1,0 @@
--- Written by tools/answers.py utoipa_security security/open_id_connect OpenIdConnect
-use Rattle.std.proofs.Common.{refl}
-use Rattle.utoipa_security.proofs.security.open_id_connect.OpenIdConnectTree.print.Goals as goal
-
-pub returns : goal.returns
-returns c = c.print_table.ensures _ refl
