@@ -38,7 +38,7 @@ ROOT = os.path.dirname(os.path.dirname(os.path.abspath(__file__)))
 
 # The programs of cases. Of the types of docs/FORMAT.md, the second knows those of DOCUMENT_TYPES, and the first all others.
 # The third tells what does not fit in a tree, and knows the types that have a table.
-PROGRAMS = ("utoipa_cases", "utoipa_document_cases", "utoipa_check_cases", "utoipa_dropped_cases")
+PROGRAMS = ("utoipa_cases", "utoipa_document_cases", "utoipa_check_cases")
 DOCUMENT_TYPES = ("Operation", "PathItem", "Callback", "Paths", "Components", "OpenApi")
 
 

@@ -7,10 +7,14 @@
 //! | `misfits TYPE` | a JSON text | the places that do not fit the type, each with the cause, ` ; ` between two; `none` where all fits |
 //! | `places TYPE` | a JSON text | the places alone |
 //! | `visits TYPE` | a JSON text | how many places were looked at |
+//! | `between` | two JSON texts, a tab between: a tree, and one that was written for it | the places of the first that the second lacks or has another value at, each with what has become of it, ` ; ` between two; `none` where it lacks nothing |
+//! | `dropped TYPE` | a JSON text | the same of its tree and of what the tree is written as when it was read as the type, or the refusal |
 #![tactic(auto)]
 
+mod dropped;
 mod kinds;
 
+use crate::dropped::{between, dropped_of_text};
 use crate::kinds::kind_named;
 use serde_json::Value;
 use std::alloc::{AllocError, Global};
@@ -32,6 +36,15 @@ fn answer_of(alloc: Global, line: &str) -> Result<String, AllocError> {
     let Some(call) = Call::of_line(line) else {
         return String::from_str(alloc, line);
     };
+    match call.name {
+        "between" => between(alloc, call.given),
+        "dropped" => dropped_of_text(alloc, call.subject(), call.given),
+        _ => misfits_of_text(alloc, &call),
+    }
+}
+
+// The answer to a call that asks what does not fit in a text.
+fn misfits_of_text(alloc: Global, call: &Call<'_>) -> Result<String, AllocError> {
     let Some(kind) = kind_named(call.subject()) else {
         return String::from_str(alloc, "no such type");
     };
