@@ -1,4 +1,7 @@
-//! Answers texts by the crate utoipa 6.0.0, as the command `utoipa_doc` of this repository answers them by the port. Many in a run.
+//! Answers texts by the crate utoipa 6.0.0, as the command `utoipa_doc` of this repository answers them by the port.
+//!
+//! Called with two words, a WAY and a COMMAND, it answers the one text of standard input, and ends with status 1 where that is refused.
+//! Called without words, it answers many.
 //!
 //! A request on standard input is a line, and after it the text, of as many bytes as the line says:
 //!
@@ -13,7 +16,7 @@
 use serde::de::{DeserializeOwned, Error as _};
 use serde::Serialize;
 use serde_json::{Error, Value};
-use std::io::{self, BufRead, BufReader, BufWriter, Write};
+use std::io::{self, BufRead, BufReader, BufWriter, Read, Write};
 use utoipa::openapi::{OpenApi, RefOr, Schema, Server};
 
 /// A text, and what is asked of it.
@@ -86,6 +89,21 @@ fn answer(request: &Request) -> Result<String, Error> {
     }
 }
 
+/// Answers the text of standard input alone.
+fn answer_one(way: &str, command: &str) -> io::Result<()> {
+    let mut text = Vec::new();
+    io::stdin().read_to_end(&mut text)?;
+    let request = Request {
+        by_tree: way == "tree",
+        command: command.to_string(),
+        base: String::new(),
+        text,
+    };
+    let mut answer = answer(&request).map_err(io::Error::other)?;
+    answer.push('\n');
+    io::stdout().write_all(answer.as_bytes())
+}
+
 fn answer_all() -> io::Result<()> {
     let mut input = BufReader::new(io::stdin());
     let mut output = BufWriter::new(io::stdout());
@@ -102,5 +120,10 @@ fn answer_all() -> io::Result<()> {
 fn main() -> io::Result<()> {
     // A text may nest as deep as 127, and each level of it takes many calls.
     let answering = std::thread::Builder::new().stack_size(1 << 30);
-    answering.spawn(answer_all)?.join().expect("the crate ended the run")
+    let words: Vec<String> = std::env::args().skip(1).collect();
+    let answered = answering.spawn(move || match &words[..] {
+        [way, command] => answer_one(way, command),
+        _ => answer_all(),
+    });
+    answered?.join().expect("the crate ended the run")
 }
