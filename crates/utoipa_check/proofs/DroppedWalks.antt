@@ -11,7 +11,7 @@ use Rattle.serde_json.proofs.Views.{Entry, view-Array, view-Object}
 use Rattle.utoipa_base.specs.Values.{values, items_values, members_values}
 use Rattle.utoipa_check.specs.Dropped as specs
 use Rattle.utoipa_check.specs.Dropped.{changed, here, under, behind, absence, is_alike, is_empty, unless_alike, dropped, items_dropped, members_dropped}
-use Rattle.utoipa_check.specs.Moves.{Move, enter, leave, items_moves, members_moves, inner_moves, outward, along, back, left, work_left}
+use Rattle.utoipa_check.specs.Moves.{Move, enter, leave, items_moves, members_moves, inner_moves, outward, along, left, work_left}
 use Rattle.utoipa_check.specs.DroppedViews.{loss_of, dropped_of, all_dropped, move_of, moves_of, stacked, path_of}
 use Rattle.utoipa_check.specs.Misfits.{Step, at_name, at_index}
 use Rattle.utoipa_check.specs.Views.{step_of, outwards}

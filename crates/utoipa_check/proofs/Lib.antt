@@ -7,7 +7,7 @@ pub mod Leaves
 pub mod ByRows
 pub mod Flows
 pub mod Joined
-pub mod References
+pub mod ReferenceObjects
 pub mod Fewer
 pub mod Walks
 pub mod Reports
@@ -15,3 +15,8 @@ pub mod Pointers
 pub mod DroppedWalks
 pub mod DroppedHas
 pub mod DroppedPlaces
+pub mod Leading
+pub mod Mentions
+pub mod MentionsJoined
+pub mod ByMentions
+pub mod Referrers

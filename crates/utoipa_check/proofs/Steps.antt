@@ -17,7 +17,7 @@ under_join : (s : specs.Step) (xs ys : specs.Misfits) → under s (xs ++ ys) ≡
 under_join s [] ys = refl
 under_join s (x ∷ xs) ys = ap (λ ms. (s ∷ x.0, x.1) ∷ ms) (under_join s xs ys)
 
-outwards_last : (xs : List Step) (s : Step) (rest : List specs.Step) → outwards (xs ++ s ∷ []) rest ≡ step_of s ∷ outwards xs rest
+pub outwards_last : (xs : List Step) (s : Step) (rest : List specs.Step) → outwards (xs ++ s ∷ []) rest ≡ step_of s ∷ outwards xs rest
 outwards_last [] s rest = refl
 outwards_last (x ∷ xs) s rest = outwards_last xs s (step_of x ∷ rest)
 

@@ -1,14 +1,13 @@
 -- The walk by a list of tasks.
-use Rattle.std.proofs.Common.{◌≡◌, ℕ, ◌+◌, ◌*◌, ◌<◌, ◌≤◌, List, [], ◌∷◌, ◌++◌, length, reverse, map, take, drop, None, Some, refl, sym, ap, ◌∙◌, subst, arith, append_assoc}
-use Rattle.std.proofs.lemmas.List.{reverse-append, map-append, length-append, length-map, length-reverse, length-take-le, take-append-drop}
+use Rattle.std.proofs.Common.{◌≡◌, ℕ, ◌+◌, ◌-◌, ◌*◌, ◌<◌, ◌≤◌, List, [], ◌∷◌, ◌++◌, length, reverse, map, take, drop, None, Some, refl, sym, ap, ◌∙◌, subst, arith, append_assoc}
+use Rattle.std.proofs.lemmas.List.{reverse-append, map-append, length-append, length-map, length-reverse, length-take-le, length-drop, take_all, take-append-drop}
 use Rattle.std.proofs.Math.Seq.{take-append_seam, drop-append_seam}
 use Rattle.utoipa_base.specs.Values.{values}
+use Rattle.utoipa_check.specs.Mentioned.{Mentioned, mentioned, all_mentioned}
 use Rattle.utoipa_check.specs.Places.{Place, places_values, Outcome, outcome, outcomes, inner_places, Task, visit, join, visits, Reaches, values_left, work_left}
-use Rattle.utoipa_check.specs.Views.{outcome_of, stacked, tasks_of, task_of, task_by, place_of}
-use Rattle.utoipa_check.specs.declared.misfit.Outcome as program
+use Rattle.utoipa_check.specs.Views.{tasks_of, task_of, task_by, place_of}
 use Rattle.utoipa_check.specs.declared.task.Task as program_task
 use Rattle.utoipa_check.proofs.Fewer.{inner_fewer}
-use Rattle.utoipa_check.proofs.Steps.{stacked_last}
 
 -- ---- lists
 
@@ -36,29 +35,50 @@ work_left_visits (p ∷ ps) = omega (arith, work_left_visits ps)
 -- ---- steps
 
 -- some places are looked at one after the other, the last one first
-visits_reach : (end : List Outcome) (ps : List Place) (ts : List Task) (os : List Outcome) → Reaches end ts (outcomes ps ++ os) → Reaches end (reverse (visits ps) ++ ts) os
-visits_reach end [] ts os h = h
-visits_reach end (p ∷ ps) ts os h =
-    let now : Reaches end (reverse (visits ps) ++ visit p ∷ ts) os = visits_reach end ps (visit p ∷ ts) os h in
-    let same : reverse (visits ps) ++ visit p ∷ ts ≡ reverse (visit p ∷ visits ps) ++ ts = sym (append_assoc (reverse (visits ps)) (visit p ∷ []) ts) ∙ ap (λ xs. xs ++ ts) (sym (reverse-append (visit p ∷ []) (visits ps))) in
-    subst (λ xs. Reaches end xs os) same now
+visits_reach : {X : Type 0} (f : Place → X) (end : List X) (ps : List Place) (ts : List Task) (xs : List X) → Reaches f end ts (map f ps ++ xs) → Reaches f end (reverse (visits ps) ++ ts) xs
+visits_reach f end [] ts xs h = h
+visits_reach f end (p ∷ ps) ts xs h =
+    let now : Reaches f end (reverse (visits ps) ++ visit p ∷ ts) xs = visits_reach f end ps (visit p ∷ ts) xs h in
+    let same : reverse (visits ps) ++ visit p ∷ ts ≡ reverse (visit p ∷ visits ps) ++ ts = sym (append_assoc (reverse (visits ps)) (visit p ∷ []) ts) ∙ ap (λ us. us ++ ts) (sym (reverse-append (visit p ∷ []) (visits ps))) in
+    subst (λ us. Reaches f end us xs) same now
 
 -- what was put on the list in place of a place that was looked at leads where that did
-pub visited : (end : List Outcome) (all rest new : List Task) (p : Place) (n : ℕ) (os : List Outcome) → all ≡ rest ++ visit p ∷ [] → new ≡ (rest ++ join p n ∷ []) ++ visits (inner_places p.target p.tree) → n ≡ length os
-    → Reaches end (reverse all) os → Reaches end (reverse new) os
-visited end all rest new p n os before after count h =
+pub visited : {X : Type 0} (f : Place → X) (end : List X) (all rest new : List Task) (p : Place) (n : ℕ) (xs : List X) → all ≡ rest ++ visit p ∷ [] → new ≡ (rest ++ join p n ∷ []) ++ visits (inner_places p.target p.tree) → n ≡ length xs
+    → Reaches f end (reverse all) xs → Reaches f end (reverse new) xs
+visited f end all rest new p n xs before after count h =
     let inner = inner_places p.target p.tree in
-    let this : Reaches end (visit p ∷ reverse rest) os = subst (λ xs. Reaches end xs os) (ap reverse before ∙ reverse_last rest (visit p)) h in
-    let joining : Reaches end (join p n ∷ reverse rest) (outcomes inner ++ os) = (os, refl, count, this) in
+    let this : Reaches f end (visit p ∷ reverse rest) xs = subst (λ us. Reaches f end us xs) (ap reverse before ∙ reverse_last rest (visit p)) h in
+    let joining : Reaches f end (join p n ∷ reverse rest) (map f inner ++ xs) = (xs, refl, count, this) in
     let same : reverse (visits inner) ++ join p n ∷ reverse rest ≡ reverse new =
-    sym (ap reverse after ∙ reverse-append (rest ++ join p n ∷ []) (visits inner) ∙ ap (λ xs. reverse (visits inner) ++ xs) (reverse_last rest (join p n)))
+    sym (ap reverse after ∙ reverse-append (rest ++ join p n ∷ []) (visits inner) ∙ ap (λ us. reverse (visits inner) ++ us) (reverse_last rest (join p n)))
     in
-    subst (λ xs. Reaches end xs os) same (visits_reach end inner (join p n ∷ reverse rest) os joining)
+    subst (λ us. Reaches f end us xs) same (visits_reach f end inner (join p n ∷ reverse rest) xs joining)
 
--- a place whose inner places have been looked at: their outcomes are on the stack
-pub to_join : (end : List Outcome) (all rest : List Task) (p : Place) (n : ℕ) (os : List Outcome) → all ≡ rest ++ join p n ∷ [] → Reaches end (reverse all) os
-    → (below : List Outcome) × (os ≡ outcomes (inner_places p.target p.tree) ++ below) × (n ≡ length below) × Reaches end (reverse rest) (outcome p ∷ below)
-to_join end all rest p n os before h = subst (λ xs. Reaches end xs os) (ap reverse before ∙ reverse_last rest (join p n)) h
+-- a place whose inner places have been looked at: their results are on the stack
+pub to_join : {X : Type 0} (f : Place → X) (end : List X) (all rest : List Task) (p : Place) (n : ℕ) (xs : List X) → all ≡ rest ++ join p n ∷ [] → Reaches f end (reverse all) xs
+    → (below : List X) × (xs ≡ map f (inner_places p.target p.tree) ++ below) × (n ≡ length below) × Reaches f end (reverse rest) (f p ∷ below)
+to_join f end all rest p n xs before h = subst (λ us. Reaches f end us xs) (ap reverse before ∙ reverse_last rest (join p n)) h
+
+each_outcome : (ps : List Place) → map outcome ps ≡ outcomes ps
+each_outcome [] = refl
+each_outcome (p ∷ ps) = ap (λ os. outcome p ∷ os) (each_outcome ps)
+
+each_mentioned : (ps : List Place) → map mentioned ps ≡ all_mentioned ps
+each_mentioned [] = refl
+each_mentioned (p ∷ ps) = ap (λ ms. mentioned p ∷ ms) (each_mentioned ps)
+
+-- the same of what was found, and of what was mentioned
+pub to_join_outcomes : (end : List Outcome) (all rest : List Task) (p : Place) (n : ℕ) (os : List Outcome) → all ≡ rest ++ join p n ∷ [] → Reaches outcome end (reverse all) os
+    → (below : List Outcome) × (os ≡ outcomes (inner_places p.target p.tree) ++ below) × (n ≡ length below) × Reaches outcome end (reverse rest) (outcome p ∷ below)
+to_join_outcomes end all rest p n os before h =
+    let j = to_join outcome end all rest p n os before h in
+    (j.0, j.1 ∙ ap (λ xs. xs ++ j.0) (each_outcome (inner_places p.target p.tree)), j.2, j.3)
+
+pub to_join_mentioned : (end : List Mentioned) (all rest : List Task) (p : Place) (n : ℕ) (ms : List Mentioned) → all ≡ rest ++ join p n ∷ [] → Reaches mentioned end (reverse all) ms
+    → (below : List Mentioned) × (ms ≡ all_mentioned (inner_places p.target p.tree) ++ below) × (n ≡ length below) × Reaches mentioned end (reverse rest) (mentioned p ∷ below)
+to_join_mentioned end all rest p n ms before h =
+    let j = to_join mentioned end all rest p n ms before h in
+    (j.0, j.1 ∙ ap (λ xs. xs ++ j.0) (each_mentioned (inner_places p.target p.tree)), j.2, j.3)
 
 -- ---- what is left
 
@@ -80,32 +100,41 @@ fewer_left_joined rest all p n before =
 pub some_left : (rest all : List Task) (p : Place) → all ≡ rest ++ visit p ∷ [] → 1 ≤ values_left all
 some_left rest all p before = omega (arith, ap values_left before, values_left_join rest (visit p ∷ []), inner_fewer p.target p.tree)
 
--- ---- the stack of outcomes
+-- ---- stacks
 
 same_split : {X : Type 0} (ls rs bs ss : List X) → ls ++ rs ≡ bs ++ ss → length rs ≡ length ss → (ls ≡ bs) × (rs ≡ ss)
 same_split ls rs bs ss e same =
     let count : length ls ≡ length bs = omega (arith, length-append ls rs, length-append bs ss, ap length e) in
     (sym (take-append_seam ls rs) ∙ ap (take (length ls)) e ∙ ap (λ n. take n (bs ++ ss)) count ∙ take-append_seam bs ss, sym (drop-append_seam ls rs) ∙ ap (drop (length ls)) e ∙ ap (λ n. drop n (bs ++ ss)) count ∙ drop-append_seam bs ss)
 
-pub stacked_length : (xs : List program.Outcome) → length (stacked xs) ≡ length xs
-stacked_length xs = length-reverse (map outcome_of xs) ∙ length-map xs outcome_of
+-- what some values stand for, the last one first
+abbrev pub stack_by : {X Y : Type 0} → (X → Y) → List X → List Y
+stack_by f xs = reverse (map f xs)
 
-stacked_join : (xs ys : List program.Outcome) → stacked (xs ++ ys) ≡ stacked ys ++ stacked xs
-stacked_join xs ys = ap reverse (map-append outcome_of xs ys) ∙ reverse-append (map outcome_of xs) (map outcome_of ys)
+pub stack_length : {X Y : Type 0} (f : X → Y) (xs : List X) → length (stack_by f xs) ≡ length xs
+stack_length f xs = length-reverse (map f xs) ∙ length-map xs f
 
--- the outcomes above some are those that the stack has before these
-pub split_stack : (xs : List program.Outcome) (n : ℕ) (above rest : List Outcome) → stacked xs ≡ above ++ rest → n ≡ length rest → (stacked (drop n xs) ≡ above) × (stacked (take n xs) ≡ rest)
-split_stack xs n above rest e count =
-    let whole : stacked (drop n xs) ++ stacked (take n xs) ≡ above ++ rest = sym (stacked_join (take n xs) (drop n xs)) ∙ ap stacked (take-append-drop n xs) ∙ e in
-    let all : length xs ≡ length above + length rest = sym (stacked_length xs) ∙ ap length e ∙ length-append above rest in
+stack_join : {X Y : Type 0} (f : X → Y) (xs ys : List X) → stack_by f (xs ++ ys) ≡ stack_by f ys ++ stack_by f xs
+stack_join f xs ys = ap reverse (map-append f xs ys) ∙ reverse-append (map f xs) (map f ys)
+
+-- the values above some are those that the stack has before these
+pub split_stack : {X Y : Type 0} (f : X → Y) (xs : List X) (n : ℕ) (above rest : List Y) → stack_by f xs ≡ above ++ rest → n ≡ length rest → (stack_by f (drop n xs) ≡ above) × (stack_by f (take n xs) ≡ rest)
+split_stack f xs n above rest e count =
+    let whole : stack_by f (drop n xs) ++ stack_by f (take n xs) ≡ above ++ rest = sym (stack_join f (take n xs) (drop n xs)) ∙ ap (stack_by f) (take-append-drop n xs) ∙ e in
+    let all : length xs ≡ length above + length rest = sym (stack_length f xs) ∙ ap length e ∙ length-append above rest in
     let within : n ≤ length xs = omega arith in
-    same_split (stacked (drop n xs)) (stacked (take n xs)) above rest whole (stacked_length (take n xs) ∙ length-take-le n xs within ∙ count)
+    same_split (stack_by f (drop n xs)) (stack_by f (take n xs)) above rest whole (stack_length f (take n xs) ∙ length-take-le n xs within ∙ count)
 
--- the outcome of a place is put in place of those of the places inside it
-pub outcome_put : (old new : List program.Outcome) (o : program.Outcome) (n : ℕ) (p : Place) (rest : List Outcome) → stacked old ≡ outcomes (inner_places p.target p.tree) ++ rest → n ≡ length rest → new ≡ take n old ++ o ∷ [] → outcome_of o ≡ outcome p
-    → stacked new ≡ outcome p ∷ rest
-outcome_put old new o n p rest before count put is =
-    ap stacked put ∙ stacked_last (take n old) o ∙ ap (λ x. x ∷ stacked (take n old)) is ∙ ap (λ os. outcome p ∷ os) (split_stack old n (outcomes (inner_places p.target p.tree)) rest before count).1
+-- the same of a slice that begins there
+pub split_slice : {X Y : Type 0} (f : X → Y) (xs ys : List X) (n : ℕ) (above rest : List Y) → ys ≡ xs → stack_by f xs ≡ above ++ rest → n ≡ length rest → stack_by f (take (length ys - n) (drop n ys)) ≡ above
+split_slice f xs ys n above rest same e count =
+    let whole : take (length ys - n) (drop n ys) ≡ drop n ys = take_all (length ys - n) (drop n ys) (omega (arith, length-drop n ys)) in
+    ap (stack_by f) (whole ∙ ap (drop n) same) ∙ (split_stack f xs n above rest e count).0
+
+-- the result of a place is put in place of those of the places inside it
+pub result_put : {X Y : Type 0} (f : X → Y) (old new : List X) (x : X) (n : ℕ) (above rest : List Y) (y : Y) → stack_by f old ≡ above ++ rest → n ≡ length rest → new ≡ take n old ++ x ∷ [] → f x ≡ y → stack_by f new ≡ y ∷ rest
+result_put f old new x n above rest y before count put is =
+    ap (stack_by f) put ∙ stack_join f (take n old) (x ∷ []) ∙ ap (λ z. z ∷ stack_by f (take n old)) is ∙ ap (λ ys. y ∷ ys) (split_stack f old n above rest before count).1
 
 -- ---- the tasks of the program
 

@@ -10,3 +10,7 @@ pub mod Has
 pub mod IsDropped
 pub mod DroppedViews
 pub mod Moves
+pub mod Referring
+pub mod References
+pub mod Mentioned
+pub mod ReferenceViews

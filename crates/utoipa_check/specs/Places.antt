@@ -1,5 +1,5 @@
 -- The places inside a tree that are looked at, each as what, and what is found there.
-use Rattle.std.specs.Prelude.{◌≡◌, ℕ, suc, ◌+◌, ◌*◌, List, [], ◌∷◌, ◌++◌, length, if◌then◌else◌, Option, None, Some, option_map, option_and_then, codes}
+use Rattle.std.specs.Prelude.{◌≡◌, ℕ, suc, ◌+◌, ◌*◌, List, [], ◌∷◌, ◌++◌, length, map, if◌then◌else◌, Option, None, Some, option_map, option_and_then, codes}
 use Rattle.serde_json.specs.Data.{Data, null, boolean, number, string, array, object, Items, no_items, item, Members, no_members, member}
 use Rattle.serde_json.specs.Find.{get}
 use Rattle.utoipa_base.specs.Choices.{chosen, scheme_types, api_key_places, flow_keys}
@@ -207,11 +207,11 @@ abbrev pub visits : List Place → List Task
 visits [] = []
 visits (p ∷ ps) = visit p ∷ visits ps
 
--- the tasks, done from the first to the last, lead from some outcomes to those at the end, the last outcome first in each
-abbrev pub Reaches : List Outcome → List Task → List Outcome → Type 0
-Reaches end [] os = os ≡ end
-Reaches end (visit p ∷ ts) os = Reaches end ts (outcome p ∷ os)
-Reaches end (join p n ∷ ts) os = (rest : List Outcome) × (os ≡ outcomes (inner_places p.target p.tree) ++ rest) × (n ≡ length rest) × Reaches end ts (outcome p ∷ rest)
+-- the tasks, done from the first to the last, lead from the results of some places to those at the end, the last result first in each
+abbrev pub Reaches : {X : Type 0} → (Place → X) → List X → List Task → List X → Type 0
+Reaches f end [] xs = xs ≡ end
+Reaches f end (visit p ∷ ts) xs = Reaches f end ts (f p ∷ xs)
+Reaches {X} f end (join p n ∷ ts) xs = (rest : List X) × (xs ≡ map f (inner_places p.target p.tree) ++ rest) × (n ≡ length rest) × Reaches f end ts (f p ∷ rest)
 
 -- the values of the places that tasks are still to look at
 abbrev pub values_left : List Task → ℕ

@@ -21,7 +21,7 @@ use utoipa_tables::{
 };
 
 /// Whether an object of the kind may be a reference.
-fn takes_references(kind: Kind) -> bool
+pub(crate) fn takes_references(kind: Kind) -> bool
     ensures { result ≡ takes_references (kind_of kind) }
 {
     matches!(
@@ -31,7 +31,7 @@ fn takes_references(kind: Kind) -> bool
 }
 
 /// The kind of an object that is no reference.
-fn object_kind(kind: Kind) -> Kind
+pub(crate) fn object_kind(kind: Kind) -> Kind
     ensures kind { kind_of result ≡ object_kind (kind_of kind) }
     ensures own { takes_references (kind_of result) ≡ false }
 {
@@ -68,7 +68,10 @@ fn put_plain_row<'a>(
 }
 
 /// What does not fit in a reference (Reference Object: section 4.8.23). Fails where memory runs out.
-fn reference_misfits<'a>(alloc: Global, tree: &'a Value) -> Result<Vec<Misfit<'a>>, AllocError>
+pub(crate) fn reference_misfits<'a>(
+    alloc: Global,
+    tree: &'a Value,
+) -> Result<Vec<Misfit<'a>>, AllocError>
     ensures { IfOk result (λ v. misfits_of v.items ≡ specs.table_misfits kinds.reference_object (specs.checks (members_at (view tree.now)))) }
 {
     let mut found = Vec::new(alloc);

@@ -31,7 +31,7 @@ fn says_array(tree: &Value) -> bool
 }
 
 /// The alternative that an object was meant for (Schema Object: section 4.8.24).
-fn meant_schema(tree: &Value) -> SchemaAlternative
+pub(crate) fn meant_schema(tree: &Value) -> SchemaAlternative
     ensures { schema_type result ≡ specs.meant_schema (members_at (view tree.now)) }
 {
     if tree.get("oneOf").is_some() {
@@ -48,7 +48,7 @@ fn meant_schema(tree: &Value) -> SchemaAlternative
 }
 
 /// Whether an object may be a schema of any other type: it names its type, or no keyword of the others.
-fn may_be_object(tree: &Value) -> bool
+pub(crate) fn may_be_object(tree: &Value) -> bool
     ensures { result ≡ specs.may_be_object (members_at (view tree.now)) }
 {
     tree.get("type").is_some()

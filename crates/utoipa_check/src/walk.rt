@@ -14,7 +14,7 @@ use serde_json::Value;
 use std::alloc::{AllocError, Global};
 
 /// Puts a place back on the list, to be joined, and the places inside it above it, to be looked at. Fails where memory runs out.
-fn begin_place<'a>(
+pub(crate) fn begin_place<'a>(
     task: Task<'a>,
     below: usize,
     tasks: &mut Vec<Task<'a>>,
@@ -32,7 +32,7 @@ fn begin_place<'a>(
 }
 
 /// Puts the outcome of a place in place of those of the places inside it. Fails where memory runs out.
-fn end_place<'a>(
+pub(crate) fn end_place<'a>(
     alloc: Global,
     task: Task<'a>,
     below: usize,

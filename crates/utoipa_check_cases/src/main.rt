@@ -7,15 +7,18 @@
 //! | `misfits TYPE` | a JSON text | the places that do not fit the type, each with the cause, ` ; ` between two; `none` where all fits |
 //! | `places TYPE` | a JSON text | the places alone |
 //! | `visits TYPE` | a JSON text | how many places were looked at |
+//! | `references TYPE` | a JSON text | the places where a document of the type refers, each with its text and what has become of it; `none` where it refers to nothing |
 //! | `between` | two JSON texts, a tab between: a tree, and one that was written for it | the places of the first that the second lacks or has another value at, each with what has become of it, ` ; ` between two; `none` where it lacks nothing |
 //! | `dropped TYPE` | a JSON text | the same of its tree and of what the tree is written as when it was read as the type, or the refusal |
 #![tactic(auto)]
 
 mod dropped;
 mod kinds;
+mod references;
 
 use crate::dropped::{between, dropped_of_text};
 use crate::kinds::kind_named;
+use crate::references::references_of_tree;
 use serde_json::Value;
 use std::alloc::{AllocError, Global};
 use std::io;
@@ -51,6 +54,9 @@ fn misfits_of_text(alloc: Global, call: &Call<'_>) -> Result<String, AllocError>
     let Ok(tree) = Value::from_str(alloc, call.given) else {
         return String::from_str(alloc, "no JSON");
     };
+    if call.name == "references" {
+        return references_of_tree(alloc, kind, &tree);
+    }
     let report = misfits(alloc, kind, &tree)?;
     match call.name {
         "misfits" => told(alloc, &report, true),

@@ -2,7 +2,7 @@ use Rattle.std.proofs.Common.{◌≡◌, ◌∙◌, ap, sym, inl, inr}
 use Rattle.utoipa_base.specs.Kinds as kinds
 use Rattle.utoipa_check.specs.Views.{object_kind}
 use Rattle.utoipa_tables.specs.Tables.{kind_of}
-use Rattle.utoipa_check.proofs.References.{object_kind_by, takes_none, taking_none}
+use Rattle.utoipa_check.proofs.ReferenceObjects.{object_kind_by, takes_none, taking_none}
 use Rattle.utoipa_check.proofs.object.object_kind.Goals as goal
 
 pub returns-in-ArrayItems-clause-kind : goal.returns-in-ArrayItems-clause-kind

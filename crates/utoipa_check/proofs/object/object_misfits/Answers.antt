@@ -6,7 +6,7 @@ use Rattle.utoipa_check.specs.Misfits as specs
 use Rattle.utoipa_check.specs.Places.{outcomes, object_places, kind_layout, members_at}
 use Rattle.utoipa_check.specs.Views.{misfits_of, object_kind}
 use Rattle.utoipa_tables.specs.Tables.{kind_of}
-use Rattle.utoipa_check.proofs.References.{same_layout, named_reference, no_reference, taking_none}
+use Rattle.utoipa_check.proofs.ReferenceObjects.{same_layout, named_reference, no_reference, taking_none}
 use Rattle.utoipa_check.proofs.object.object_misfits.Goals as goal
 use Rattle.utoipa_check.proofs.object.object_misfits.Goals.{else-takes_references-via-then-takes_references+else-is_some, else-takes_references-via-else-takes_references}
 

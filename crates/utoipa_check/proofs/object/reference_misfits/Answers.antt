@@ -1,6 +1,6 @@
 use Rattle.serde_json.specs.View.{view}
 use Rattle.utoipa_check.proofs.ByRows.{rows_step}
-use Rattle.utoipa_check.proofs.References.{plain_from, plain_rest}
+use Rattle.utoipa_check.proofs.ReferenceObjects.{plain_from, plain_rest}
 use Rattle.utoipa_check.proofs.object.reference_misfits.Goals as goal
 
 pub put_plain_row-requires : goal.put_plain_row-requires

@@ -8,7 +8,7 @@ use Rattle.utoipa_check.proofs.walk.walk.Given as goal
 
 abbrev pub invariant-walk : goal.invariant-walk
 invariant-walk l = record {
-  reaches : Reaches (outcome (place (at_index 0) (target_of l.fn.target) (view l.fn.tree)) ∷ []) (reverse (tasks_of l.tasks.items)) (stacked l.outcomes.items);
+  reaches : Reaches outcome (outcome (place (at_index 0) (target_of l.fn.target) (view l.fn.tree)) ∷ []) (reverse (tasks_of l.tasks.items)) (stacked l.outcomes.items);
   counted : l.visits + values_left (tasks_of l.tasks.items) ≤ l.initial.visits + values (view l.fn.tree);
 }
 

@@ -1,0 +1,8 @@
+use Rattle.std.proofs.Common.{◌≡◌, ◌++◌}
+use Rattle.serde_json.specs.View.{members_view}
+use Rattle.utoipa_check.specs.ReferenceViews.{mentions_of}
+use Rattle.utoipa_check.specs.References.{requirement_mentions}
+use Rattle.utoipa_check.proofs.mention.requirement_mentions.Given as goal
+
+abbrev pub invariant-loop-name : goal.invariant-loop-name
+invariant-loop-name l = mentions_of l.found.items ++ requirement_mentions (members_view l.name-iterator) ≡ requirement_mentions (members_view l.initial.name-iterator)
