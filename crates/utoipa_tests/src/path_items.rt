@@ -83,8 +83,7 @@ fn each_method_has_its_member(rt: HostRuntime) {
         r#"{"delete":{"operationId":"d","responses":{}},"get":{"operationId":"g","responses":{}},"head":{"operationId":"h","responses":{}},"options":{"operationId":"o","responses":{}},"patch":{"operationId":"pa","responses":{}},"post":{"operationId":"po","responses":{}},"put":{"operationId":"pu","responses":{}},"query":{"operationId":"q","responses":{}},"trace":{"operationId":"t","responses":{}}}"#;
     is_json(&rt, &item, expected);
     is_written(&rt, item, expected);
-    let query = operation(&rt, "q");
-    let queried = PathItem::builder(rt.alloc()).query(Some(query));
+    let queried = PathItem::builder(rt.alloc()).query(Some(operation(&rt, "q")));
     stands_at(&rt, &queried.build(), HttpMethod::Get, "none");
 }
 
