@@ -14,9 +14,10 @@ use Rattle.utoipa_check.specs.Mentioned.{Mentioned, mentioned, all_mentioned}
 use Rattle.utoipa_check.specs.Misfits.{at_name}
 use Rattle.utoipa_check.specs.Places.{members_at, Place, field_places, fields_places}
 use Rattle.utoipa_check.specs.References.{Mentions, Mentioner, Mentioners, under, row_mentions, rows_mentions, mentioner, mentioner_at, mentioners, mentions}
-use Rattle.utoipa_check.specs.ReferenceViews.{is_kept, mentions_of, row_mentions_at}
+use Rattle.utoipa_check.specs.ReferenceViews.{mentions_of, row_mentions_at}
 use Rattle.utoipa_check.specs.declared.mention.Mention.{Mention}
 use Rattle.utoipa_check.proofs.ByRows.{get_at, row_at}
+use Rattle.utoipa_check.specs.Views.{is_kept}
 
 -- ---- members
 

@@ -15,6 +15,13 @@ pub mod Pointers
 pub mod DroppedWalks
 pub mod DroppedHas
 pub mod DroppedPlaces
+pub mod Told
+pub mod ByDoubts
+pub mod DoubtsJoined
+pub mod Doubters
+pub mod Copies
+pub mod DoubtsWalked
+pub mod DoubtsSound
 pub mod Leading
 pub mod Mentions
 pub mod MentionsJoined

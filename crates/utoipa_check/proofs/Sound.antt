@@ -36,15 +36,15 @@ or_no false b e = (refl, e)
 
 -- ---- lists of misfits
 
-join_true : (d : Data) (xs ys : Misfits) → AllTrue d xs → AllTrue d ys → AllTrue d (xs ++ ys)
+pub join_true : (d : Data) (xs ys : Misfits) → AllTrue d xs → AllTrue d ys → AllTrue d (xs ++ ys)
 join_true d [] ys g h = h
 join_true d (x ∷ xs) ys g h = (g.0, join_true d xs ys g.1 h)
 
-under_name : (name : List ℕ) (e : Data) (ms : Members) → IsMember name e ms → (xs : Misfits) → AllTrue e xs → AllTrue (object ms) (under (at_name name) xs)
+pub under_name : (name : List ℕ) (e : Data) (ms : Members) → IsMember name e ms → (xs : Misfits) → AllTrue e xs → AllTrue (object ms) (under (at_name name) xs)
 under_name name e ms there [] h = tt
 under_name name e ms there (x ∷ xs) h = ((h.0.0, (e, there, h.0.1), h.0.2), under_name name e ms there xs h.1)
 
-under_index : (i : ℕ) (e : Data) (ds : Items) → get_item i ds ≡ Some e → (xs : Misfits) → AllTrue e xs → AllTrue (array ds) (under (at_index i) xs)
+pub under_index : (i : ℕ) (e : Data) (ds : Items) → get_item i ds ≡ Some e → (xs : Misfits) → AllTrue e xs → AllTrue (array ds) (under (at_index i) xs)
 under_index i e ds there [] h = tt
 under_index i e ds there (x ∷ xs) h = ((h.0.0, (e, there, h.0.1), h.0.2), under_index i e ds there xs h.1)
 
@@ -353,6 +353,10 @@ mutual
   members_sound : (ms : Members) → MembersSound ms
   members_sound no_members = tt
   members_sound (member k d ms) = (tree_sound d, members_sound ms)
+
+-- what does not fit a table is true, whichever it is
+pub table_sound : (n : ObjectType) (ms : Members) → AllTrue (object ms) (table_misfits n (checks ms))
+table_sound n ms = table_true n ms (members_sound ms)
 
 -- each misfit is true
 pub misfits_sound : (k : Kind) (t : Data) → AllTrue t (misfits k t)

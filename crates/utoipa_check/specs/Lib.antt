@@ -10,6 +10,10 @@ pub mod Has
 pub mod IsDropped
 pub mod DroppedViews
 pub mod Moves
+pub mod Located
+pub mod Taken
+pub mod Doubts
+pub mod Doubted
 pub mod Referring
 pub mod References
 pub mod Mentioned

@@ -5,7 +5,7 @@ use Rattle.utoipa_check.specs.Mentioned as places
 use Rattle.utoipa_check.specs.Places.{members_at}
 use Rattle.utoipa_check.specs.References as references
 use Rattle.utoipa_check.specs.Referring as specs
-use Rattle.utoipa_check.specs.Views.{step_of, outwards}
+use Rattle.utoipa_check.specs.Views.{step_of, outwards, is_kept}
 use Rattle.utoipa_check.specs.declared.mention.Mention.{Mention}
 use Rattle.utoipa_check.specs.declared.mention.Mentioned.{Mentioned}
 use Rattle.utoipa_check.specs.declared.references.Reference.{Reference}
@@ -14,8 +14,6 @@ use Rattle.utoipa_check.specs.declared.referring.State.TheVariants as states
 use Rattle.utoipa_check.specs.declared.referring.Way.{Way}
 use Rattle.utoipa_check.specs.declared.referring.Way.TheVariants as ways
 use Rattle.utoipa_tables.specs.Tables.{kind_of}
-use Rattle.utoipa_tables.specs.declared.kinds.Mark.{Mark}
-use Rattle.utoipa_tables.specs.declared.kinds.Mark.TheVariants as marks
 use Rattle.utoipa_tables.specs.declared.kinds.Row.{Row}
 
 abbrev pub state_of : State → specs.State
@@ -50,14 +48,6 @@ references_of [] = []
 references_of (r ∷ rs) = reference_of r ∷ references_of rs
 
 -- ---- rows
-
--- whether a member is kept, by the mark of its row
-abbrev pub is_kept : Mark → Bool
-is_kept marks.Required = true
-is_kept marks.Optional = true
-is_kept marks.OrNull = true
-is_kept marks.Defaulted = true
-is_kept marks.NotKept = false
 
 -- what is mentioned by one row of the program
 abbrev pub row_mentions_at : Row → Data → references.Mentions

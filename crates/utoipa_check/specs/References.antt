@@ -5,10 +5,11 @@ use Rattle.std.specs.Cmp.Lexicographic.{slice_cmp}
 use Rattle.serde_json.specs.Data.{Data, null, boolean, number, string, array, object, Items, no_items, item, Members, no_members, member}
 use Rattle.serde_json.specs.Find.{get_member}
 use Rattle.utoipa_base.specs.Extensions.{is_extension}
-use Rattle.utoipa_base.specs.Kinds.{ObjectType, path_item_object, reference_object, discriminator_object, one_of_schema, all_of_schema, any_of_schema, array_schema, object_schema, Kind, text, list_of, map_of, ordered_map_of, entries_of, ref_or, named, schema, array_items, additional_properties, Row}
+use Rattle.utoipa_base.specs.Kinds.{ObjectType, path_item_object, reference_object, discriminator_object, Kind, text, list_of, map_of, ordered_map_of, entries_of, ref_or, named, schema, array_items, additional_properties, Row}
 use Rattle.utoipa_base.specs.Tables.{table}
-use Rattle.utoipa_check.specs.Misfits.{Step, at_name, at_index, Checks, checks, fits_table, may_be_object, meant_schema}
+use Rattle.utoipa_check.specs.Misfits.{Step, at_name, at_index, Checks, checks, fits_table}
 use Rattle.utoipa_check.specs.Referring.{Way, by_reference, by_mapping, by_requirement, State, state}
+use Rattle.utoipa_check.specs.Taken.{taken_schema}
 
 -- ---- mentions
 
@@ -115,15 +116,6 @@ named_mentions path_item_object ms fs = own_mention ms ++ rows_mentions (table p
 named_mentions n ms fs = rows_mentions (table n) fs
 
 -- ---- choices
-
--- the table that an object is read by as a schema: the first that fits, or of one that none fits the table that was meant
-abbrev pub taken_schema : Members → Checks → ObjectType
-taken_schema ms cs =
-    if fits_table one_of_schema cs then one_of_schema else
-    (if fits_table all_of_schema cs then all_of_schema else
-    (if fits_table any_of_schema cs then any_of_schema else
-    (if fits_table array_schema cs then array_schema else
-    (if may_be_object ms then (if fits_table object_schema cs then object_schema else meant_schema ms) else meant_schema ms))))
 
 abbrev pub schema_mentions : Members → Checks → Mentioners → Mentions
 schema_mentions ms cs fs = rows_mentions (table (taken_schema ms cs)) fs

@@ -102,6 +102,14 @@ is_required marks.OrNull = false
 is_required marks.Defaulted = false
 is_required marks.NotKept = false
 
+-- whether a member is kept, by the mark of its row
+abbrev pub is_kept : Mark → Bool
+is_kept marks.Required = true
+is_kept marks.Optional = true
+is_kept marks.OrNull = true
+is_kept marks.Defaulted = true
+is_kept marks.NotKept = false
+
 -- ---- choices
 
 -- what the word of a member has chosen, or the misfits of that member

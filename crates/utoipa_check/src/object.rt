@@ -130,7 +130,7 @@ fn security_scheme_misfits<'a>(
 }
 
 /// What does not fit in an object that is no reference. Fails where memory runs out.
-fn own_misfits<'a>(
+pub(crate) fn own_misfits<'a>(
     alloc: Global,
     kind: Kind,
     tree: &'a Value,

@@ -7,10 +7,10 @@ ghost use Rattle.utoipa_check.specs.Mentioned.{all_mentioned, target_mentions};
 ghost use Rattle.utoipa_check.specs.Misfits.{checks};
 ghost use Rattle.utoipa_check.specs.Places as places;
 ghost use Rattle.utoipa_check.specs.Places.{inner_places, field_places, fields_places, object_places, kind_layout, array_places, item_target, of_kind, items_at, members_at};
-ghost use Rattle.utoipa_check.specs.ReferenceViews.{mentions_of, stacked_mentioned, is_kept, row_mentions_at};
+ghost use Rattle.utoipa_check.specs.ReferenceViews.{mentions_of, stacked_mentioned, row_mentions_at};
 ghost use Rattle.utoipa_check.specs.References as specs;
 ghost use Rattle.utoipa_check.specs.Views.{stacked, target_of, is_reference, takes_references};
-ghost use Rattle.utoipa_tables.specs.Tables.{kind_of, type_of, rows_of, members_of, schema_members, schema_type};
+ghost use Rattle.utoipa_tables.specs.Tables.{kind_of, type_of, rows_of, members_of, schema_members};
 
 use crate::layout::Target;
 use crate::leaf::own_kind;
@@ -20,18 +20,11 @@ use crate::mention::{
 };
 use crate::misfit::{Outcome, is_fit};
 use crate::object::{object_kind, reference_misfits, takes_references};
-use crate::rows::fits_rows;
-use crate::schema::{may_be_object, meant_schema};
+use crate::rows::is_kept;
+use crate::schema::taken_schema;
 use serde_json::Value;
 use std::alloc::{AllocError, Global};
-use utoipa_tables::{Kind, Mark, ObjectType, Row, SchemaAlternative, rows, schema_rows};
-
-/// Whether a member is kept, by the mark of its row.
-fn is_kept(mark: Mark) -> bool
-    ensures { result ≡ is_kept mark }
-{
-    !matches!(mark, Mark::NotKept)
-}
+use utoipa_tables::{Kind, ObjectType, Row, rows, schema_rows};
 
 /// Adds what is mentioned by one row, and takes off what was mentioned in its member, if that is there. Fails where memory runs out.
 fn put_row_mentions<'a>(
@@ -94,30 +87,6 @@ fn named_mentions<'a>(
         }
         _ => mentions_by_rows(alloc, rows(object_type), tree, inner),
     }
-}
-
-/// The alternative that an object is read by as a schema (Schema Object: OpenAPI 3.1, section 4.8.24): the first that fits, or of one that
-/// none fits the one that was meant.
-fn taken_schema(tree: &Value, outcomes: &[Outcome<'_>]) -> SchemaAlternative
-    requires { stacked outcomes.now ≡ places.outcomes (fields_places schema_members (view tree.now)) }
-    ensures { schema_type result ≡ specs.taken_schema (members_at (view tree.now)) (checks (members_at (view tree.now))) }
-{
-    if fits_rows(schema_rows(SchemaAlternative::OneOf), tree, outcomes) {
-        return SchemaAlternative::OneOf;
-    }
-    if fits_rows(schema_rows(SchemaAlternative::AllOf), tree, outcomes) {
-        return SchemaAlternative::AllOf;
-    }
-    if fits_rows(schema_rows(SchemaAlternative::AnyOf), tree, outcomes) {
-        return SchemaAlternative::AnyOf;
-    }
-    if fits_rows(schema_rows(SchemaAlternative::Array), tree, outcomes) {
-        return SchemaAlternative::Array;
-    }
-    if may_be_object(tree) && fits_rows(schema_rows(SchemaAlternative::Object), tree, outcomes) {
-        return SchemaAlternative::Object;
-    }
-    meant_schema(tree)
 }
 
 /// Whether an object reads as a reference. Fails where memory runs out.

@@ -6,13 +6,20 @@ ghost use Rattle.utoipa_check.specs.Misfits.{is_fit, rows_misfits, checks};
 ghost use Rattle.utoipa_check.specs.Places as places;
 ghost use Rattle.utoipa_check.specs.Places.{outcomes, field_places, fields_places, members_at};
 ghost use Rattle.utoipa_check.specs.Rows.{row_misfits_at};
-ghost use Rattle.utoipa_check.specs.Views.{misfits_of, stacked, has_to_fit, is_required};
+ghost use Rattle.utoipa_check.specs.Views.{misfits_of, stacked, has_to_fit, is_required, is_kept};
 ghost use Rattle.utoipa_tables.specs.Tables.{kind_of, rows_of, members_of};
 
 use crate::misfit::{Cause, Misfit, Outcome, is_fit, put_here, put_under};
 use serde_json::Value;
 use std::alloc::{AllocError, Global};
 use utoipa_tables::{Mark, Row};
+
+/// Whether a member is kept, by the mark of its row.
+pub(crate) fn is_kept(mark: Mark) -> bool
+    ensures { result ≡ is_kept mark }
+{
+    !matches!(mark, Mark::NotKept)
+}
 
 /// Whether what a member holds has to fit, by the mark of its row and by whether it is null.
 pub(crate) fn has_to_fit(mark: Mark, is_null: bool) -> bool

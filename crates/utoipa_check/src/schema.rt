@@ -6,6 +6,7 @@ ghost use Rattle.serde_json.specs.View.{view};
 ghost use Rattle.utoipa_base.specs.Choices.{flow_keys};
 ghost use Rattle.utoipa_check.specs.Misfits as specs;
 ghost use Rattle.utoipa_check.specs.Places.{outcomes, fields_places, inner_places, any_flow, found, members_at};
+ghost use Rattle.utoipa_check.specs.Taken.{taken_schema};
 ghost use Rattle.utoipa_check.specs.Views.{misfits_of, stacked};
 ghost use Rattle.utoipa_tables.specs.Tables.{schema_type, schema_members, flow_members, flow_kinds};
 
@@ -60,7 +61,7 @@ pub(crate) fn may_be_object(tree: &Value) -> bool
 }
 
 /// Whether an object fits an alternative of a schema.
-fn fits_schema(tree: &Value, inner: &[Outcome<'_>]) -> bool
+pub(crate) fn fits_schema(tree: &Value, inner: &[Outcome<'_>]) -> bool
     requires { stacked inner.now ≡ outcomes (fields_places schema_members (view tree.now)) }
     ensures { result ≡ specs.fits_schema (members_at (view tree.now)) (specs.checks (members_at (view tree.now))) }
 {
@@ -69,6 +70,30 @@ fn fits_schema(tree: &Value, inner: &[Outcome<'_>]) -> bool
         || fits_rows(schema_rows(SchemaAlternative::AnyOf), tree, inner)
         || fits_rows(schema_rows(SchemaAlternative::Array), tree, inner)
         || may_be_object(tree) && fits_rows(schema_rows(SchemaAlternative::Object), tree, inner)
+}
+
+/// The alternative that an object is read by as a schema (Schema Object: OpenAPI 3.1, section 4.8.24): the first that fits, or of one that
+/// none fits the one that was meant.
+pub(crate) fn taken_schema(tree: &Value, inner: &[Outcome<'_>]) -> SchemaAlternative
+    requires { stacked inner.now ≡ outcomes (fields_places schema_members (view tree.now)) }
+    ensures { schema_type result ≡ taken_schema (members_at (view tree.now)) (specs.checks (members_at (view tree.now))) }
+{
+    if fits_rows(schema_rows(SchemaAlternative::OneOf), tree, inner) {
+        return SchemaAlternative::OneOf;
+    }
+    if fits_rows(schema_rows(SchemaAlternative::AllOf), tree, inner) {
+        return SchemaAlternative::AllOf;
+    }
+    if fits_rows(schema_rows(SchemaAlternative::AnyOf), tree, inner) {
+        return SchemaAlternative::AnyOf;
+    }
+    if fits_rows(schema_rows(SchemaAlternative::Array), tree, inner) {
+        return SchemaAlternative::Array;
+    }
+    if may_be_object(tree) && fits_rows(schema_rows(SchemaAlternative::Object), tree, inner) {
+        return SchemaAlternative::Object;
+    }
+    meant_schema(tree)
 }
 
 /// What does not fit in a schema: of one that fits no alternative, what does not fit the one that was meant. Fails where memory runs out.

@@ -1,10 +1,11 @@
 //! The calls that tell what of a tree is not in what it is written as.
 
+use crate::told::told;
 use serde_json::Value;
 use std::alloc::{AllocError, Global};
 use utoipa_base::Tree;
 use utoipa_case_kit::{refused, two_trees};
-use utoipa_check::{Dropped, dropped_between, dropped_by};
+use utoipa_check::{dropped_between, dropped_by};
 use utoipa_leaf::external_docs::ExternalDocs;
 use utoipa_leaf::info::{Contact, Info, License};
 use utoipa_leaf::server::Server;
@@ -46,20 +47,4 @@ fn dropped_of<T: Tree>(alloc: Global, tree: &Value) -> Result<String, AllocError
         Ok(places) => told(alloc, &places),
         Err(fault) => refused(alloc, &fault),
     }
-}
-
-// Some places, each with what has become of it.
-fn told(alloc: Global, places: &Vec<Dropped<'_>>) -> Result<String, AllocError> {
-    if places.is_empty() {
-        return String::from_str(alloc, "none");
-    }
-    let mut text = String::new(alloc);
-    for place in places {
-        if !text.is_empty() {
-            text.push_str(" ; ")?;
-        }
-        let one = format!(in alloc; "{place}")?;
-        text.push_str(one.as_str())?;
-    }
-    Ok(text)
 }

@@ -7,23 +7,29 @@
 //! | `misfits TYPE` | a JSON text | the places that do not fit the type, each with the cause, ` ; ` between two; `none` where all fits |
 //! | `places TYPE` | a JSON text | the places alone |
 //! | `visits TYPE` | a JSON text | how many places were looked at |
-//! | `references TYPE` | a JSON text | the places where a document of the type refers, each with its text and what has become of it; `none` where it refers to nothing |
-//! | `between` | two JSON texts, a tab between: a tree, and one that was written for it | the places of the first that the second lacks or has another value at, each with what has become of it, ` ; ` between two; `none` where it lacks nothing |
+//! | `doubts TYPE` | a JSON text | the places that do not fit what was meant there, where something else is read |
+//! | `references TYPE` | a JSON text | the places where a document of the type refers, each with its text and what has become of it |
+//! | `located TYPE` | a JSON text | `read` where the text is a document of the type, else the fault with its place |
+//! | `between` | two JSON texts, a tab between: a tree, and one that was written for it | the places of the first that the second lacks or has another value at, each with what has become of it |
 //! | `dropped TYPE` | a JSON text | the same of its tree and of what the tree is written as when it was read as the type, or the refusal |
 #![tactic(auto)]
 
 mod dropped;
 mod kinds;
-mod references;
+mod located;
+mod told;
 
 use crate::dropped::{between, dropped_of_text};
 use crate::kinds::kind_named;
-use crate::references::references_of_tree;
+use crate::located::located_of_text;
+use crate::told::told;
 use serde_json::Value;
 use std::alloc::{AllocError, Global};
 use std::io;
 use utoipa_case_kit::Call;
-use utoipa_check::{Misfit, Report, misfits};
+use utoipa_check::references::references;
+use utoipa_check::{Pointer, Report, doubts, misfits};
+use utoipa_tables::Kind;
 
 fn main(rt: HostRuntime) -> io::Result<()> {
     for line in rt.lines(rt.alloc()) {
@@ -42,53 +48,46 @@ fn answer_of(alloc: Global, line: &str) -> Result<String, AllocError> {
     match call.name {
         "between" => between(alloc, call.given),
         "dropped" => dropped_of_text(alloc, call.subject(), call.given),
-        _ => misfits_of_text(alloc, &call),
+        "located" => located_of_text(alloc, call.subject(), call.given),
+        _ => answer_of_kind(alloc, &call),
     }
 }
 
-// The answer to a call that asks what does not fit in a text.
-fn misfits_of_text(alloc: Global, call: &Call<'_>) -> Result<String, AllocError> {
+// The answer to a call that asks of a text as a kind.
+fn answer_of_kind(alloc: Global, call: &Call<'_>) -> Result<String, AllocError> {
     let Some(kind) = kind_named(call.subject()) else {
         return String::from_str(alloc, "no such type");
     };
-    let Ok(tree) = Value::from_str(alloc, call.given) else {
-        return String::from_str(alloc, "no JSON");
-    };
-    if call.name == "references" {
-        return references_of_tree(alloc, kind, &tree);
+    match Value::from_str(alloc, call.given) {
+        Ok(tree) => answer_of_tree(alloc, call.name, kind, &tree),
+        Err(_) => String::from_str(alloc, "no JSON"),
     }
-    let report = misfits(alloc, kind, &tree)?;
-    match call.name {
-        "misfits" => told(alloc, &report, true),
-        "places" => told(alloc, &report, false),
+}
+
+fn answer_of_tree(
+    alloc: Global,
+    call: &str,
+    kind: Kind,
+    tree: &Value,
+) -> Result<String, AllocError> {
+    match call {
+        "doubts" => told(alloc, &doubts(alloc, kind, tree)?),
+        "references" => told(alloc, &references(alloc, kind, tree)?),
+        "misfits" => told(alloc, &misfits(alloc, kind, tree)?.misfits),
+        "places" => places(alloc, misfits(alloc, kind, tree)?),
         "visits" => {
-            let visits = report.visits;
+            let visits = misfits(alloc, kind, tree)?.visits;
             format!(in alloc; "{visits}")
         }
         _ => String::from_str(alloc, "no such call"),
     }
 }
 
-// The places of a report, with the causes or without them.
-fn told(alloc: Global, report: &Report<'_>, with_causes: bool) -> Result<String, AllocError> {
-    if report.misfits.is_empty() {
-        return String::from_str(alloc, "none");
+// The places of a report, without the causes.
+fn places(alloc: Global, report: Report<'_>) -> Result<String, AllocError> {
+    let mut pointers: Vec<Pointer<'_>> = Vec::new(alloc);
+    for misfit in report.misfits {
+        pointers.push(misfit.pointer)?;
     }
-    let mut text = String::new(alloc);
-    for misfit in &report.misfits {
-        if !text.is_empty() {
-            text.push_str(" ; ")?;
-        }
-        let one = told_of_one(alloc, misfit, with_causes)?;
-        text.push_str(one.as_str())?;
-    }
-    Ok(text)
-}
-
-fn told_of_one(alloc: Global, misfit: &Misfit<'_>, with_cause: bool) -> Result<String, AllocError> {
-    if with_cause {
-        return format!(in alloc; "{misfit}");
-    }
-    let pointer = &misfit.pointer;
-    format!(in alloc; "{pointer}")
+    told(alloc, &pointers)
 }
