@@ -1,0 +1,36 @@
+-- The codes by which a call from C tells how it ended, and what each promises.
+use Rattle.std.specs.Prelude.{◌≡◌, ◌<◌, ℕ, List, ◌++◌, length, drop}
+use Rattle.utoipa_command.specs.Answers.{IsAnswer, IsCause}
+use Rattle.utoipa_command.specs.Commands.{Request}
+use Rattle.utoipa_command.specs.declared.refusal.Refusal.{Refusal}
+use Rattle.utoipa_command.specs.declared.refusal.Refusal.TheVariants.{Memory, Read, Write, Text, Fraction, Missing, Kind, Word, Alternative, Empty, Count}
+
+-- the code of a refusal; a call from C neither reads an input nor writes an output, so the last two come nowhere
+abbrev pub code_of : Refusal → ℕ
+code_of Memory = 2
+code_of Text = 3
+code_of Fraction = 4
+code_of Missing = 5
+code_of Kind = 6
+code_of Word = 7
+code_of Alternative = 8
+code_of Empty = 9
+code_of Count = 10
+code_of Read = 12
+code_of Write = 13
+
+-- the room holds the line at its front, and behind it what it held
+abbrev pub HasRoom : (line old new : List ℕ) → Type 0
+HasRoom line old new = new ≡ line ++ drop (length line) old
+
+-- code 0: the answer to the text stands at the front of the room, and this is its length
+abbrev pub IsAnswered : Request → (text old new : List ℕ) → (needed : ℕ) → Type 0
+IsAnswered r text old new needed = (line : List ℕ) × IsAnswer r text line × (needed ≡ length line) × HasRoom line old new
+
+-- code 1: the text has an answer of this length, for which the room is too small
+abbrev pub IsToldOf : Request → (text room : List ℕ) → (needed : ℕ) → Type 0
+IsToldOf r text room needed = (line : List ℕ) × IsAnswer r text line × (needed ≡ length line) × (length room < length line)
+
+-- any other code: that of a refusal, for which the text gives cause
+abbrev pub IsRefused : Request → (text : List ℕ) → (code : ℕ) → Type 0
+IsRefused r text code = (w : Refusal) × (code ≡ code_of w) × IsCause r text w
