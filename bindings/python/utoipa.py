@@ -1,0 +1,124 @@
+"""OpenAPI 3.1 and 3.2 documents read, written, merged and nested, by a library of which each function is proved.
+
+Each function takes a JSON text, a str or bytes, and returns JSON: with no space between its parts, and with the members of each
+object in the order of their names. Where a text has no answer, `Refused` is raised. What is promised of each is what utoipa.h says.
+
+    >>> import utoipa
+    >>> utoipa.server('{ "url": "/v1", "description": null }')
+    '{"url":"/v1"}'
+    >>> utoipa.server('{ "description": "where" }')
+    Traceback (most recent call last):
+        ...
+    utoipa.Refused: missing: a member that is required is absent
+
+A thread that calls has to have a stack of `STACK` bytes. It mostly has; else `threading.stack_size(utoipa.STACK)` gives it to those that are
+started from then on.
+
+The library is libutoipa.so: of the folder that the environment variable UTOIPA_LIBRARY names, or else where the system finds it. Other
+threads run while the library is called.
+"""
+from __future__ import annotations
+
+import ctypes
+import os
+from typing import Any, Union
+
+__all__ = ["STACK", "Refused", "document", "merge", "nest", "schema", "server"]
+
+Text = Union[str, bytes, bytearray, memoryview]
+
+# The stack in bytes that a call may take, UTOIPA_STACK of utoipa.h. Where a thread has less, a text that nests deep ends the process.
+STACK = 4 << 20
+
+_DONE, _ROOM = 0, 1
+
+# The word of each refusal by its code, and what it says.
+_REFUSALS = {
+    2: ("memory", "memory ran out"),
+    3: ("text", "the text is no JSON text, or not UTF-8"),
+    4: ("fraction", "a number is neither an i64 nor a u64"),
+    5: ("missing", "a member that is required is absent"),
+    6: ("kind", "a value is of another kind or range"),
+    7: ("word", "a text is none of the words that may stand there"),
+    8: ("alternative", "no alternative of a choice fits"),
+    9: ("empty", "there is no document to merge"),
+    10: ("count", "there are not two documents, of which the second is to be nested into the first"),
+    11: ("base", "the base is not UTF-8"),
+}
+
+
+class Refused(ValueError):
+    """A text that has no answer. `word` says why.
+
+    It is `memory`, `text` (no JSON text), `fraction` (a number that is neither an i64 nor a u64), `missing` (a required member), `kind`,
+    `word`, `alternative`, `empty` (no document to merge), `count` (not two documents to nest) or `base` (which is not UTF-8). Which of
+    `missing`, `kind`, `word` and `alternative` comes is not promised: each says that the text is JSON, with no fraction, and no document of
+    the kind that is read.
+    """
+
+    word: str
+
+    def __init__(self, code: int) -> None:
+        self.word, says = _REFUSALS[code]
+        super().__init__("%s: %s" % (self.word, says))
+
+
+def _library() -> ctypes.CDLL:
+    """The library, with the types of its functions."""
+    library = ctypes.CDLL(os.path.join(os.environ.get("UTOIPA_LIBRARY", ""), "libutoipa.so"))
+    given = [ctypes.c_char_p, ctypes.c_size_t]
+    answered = [ctypes.c_void_p, ctypes.c_size_t, ctypes.POINTER(ctypes.c_size_t)]
+    for name in ("server", "schema", "document", "merge", "nest"):
+        function = getattr(library, "utoipa_" + name)
+        function.argtypes = (given if name == "nest" else []) + given + answered
+        function.restype = ctypes.c_uint8
+    return library
+
+
+_LIBRARY = _library()
+
+
+def _bytes_of(text: Text) -> bytes:
+    return text.encode() if isinstance(text, str) else bytes(memoryview(text))
+
+
+def _answer(function: Any, *given: Text) -> str:
+    """The answer of a function of the library to what it is given."""
+    words = [_bytes_of(it) for it in given]
+    passed = [it for word in words for it in (word, len(word))]
+    # The answer is mostly no longer than the text and its line feed. Where it is, the library says how long.
+    length = len(words[-1]) + 1
+    while True:
+        room, needed = ctypes.create_string_buffer(length), ctypes.c_size_t()
+        code = function(*passed, room, length, ctypes.byref(needed))
+        if code == _DONE:
+            # Without the line feed.
+            return ctypes.string_at(room, needed.value - 1).decode()
+        if code != _ROOM:
+            raise Refused(code)
+        length = needed.value
+
+
+def server(text: Text) -> str:
+    """Reads a Server Object (OpenAPI 3.1, section 4.8.5) and writes it."""
+    return _answer(_LIBRARY.utoipa_server, text)
+
+
+def schema(text: Text) -> str:
+    """Reads a Schema Object, or a reference to one (section 4.8.24), and writes it."""
+    return _answer(_LIBRARY.utoipa_schema, text)
+
+
+def document(text: Text) -> str:
+    """Reads an OpenAPI Object (section 4.8.1) and writes it."""
+    return _answer(_LIBRARY.utoipa_document, text)
+
+
+def merge(text: Text) -> str:
+    """Reads a list of OpenAPI documents and writes what they are merged into."""
+    return _answer(_LIBRARY.utoipa_merge, text)
+
+
+def nest(base: Text, text: Text) -> str:
+    """Reads a list of two OpenAPI documents and writes the first with the second nested into it, its paths behind the base."""
+    return _answer(_LIBRARY.utoipa_nest, base, text)

@@ -1,0 +1,259 @@
+//! OpenAPI 3.1 and 3.2 documents read, written, merged and nested, by a library of which each function is proved.
+//!
+//! Each function takes a JSON text and answers JSON: with no space between its parts, and with the members of each object in the order of
+//! their names. What is promised of each is what `utoipa.h` says.
+//!
+//! ```
+//! use utoipa_proved::{server, Refusal};
+//!
+//! assert_eq!(server(r#"{ "url": "/v1", "description": null }"#), Ok(r#"{"url":"/v1"}"#.to_owned()));
+//! assert_eq!(server(r#"{ "description": "where" }"#), Err(Refusal::Missing));
+//! ```
+//!
+//! A thread that calls has to have a stack of [`STACK`] bytes. One of std has less, if nothing else is said, which is not enough for the texts
+//! that nest deepest:
+//!
+//! ```
+//! use utoipa_proved::{document, STACK};
+//!
+//! let text = r#"{"openapi":"3.1.0","info":{"version":"1","title":"t"},"paths":{}}"#;
+//! let thread = std::thread::Builder::new().stack_size(STACK).spawn(move || document(text));
+//! let answer = thread.expect("a thread").join().expect("an answer");
+//! assert_eq!(answer.as_deref(), Ok(r#"{"info":{"title":"t","version":"1"},"openapi":"3.1.0","paths":{}}"#));
+//! ```
+
+use std::fmt;
+
+/// The stack in bytes that a call may take, UTOIPA_STACK of `utoipa.h`. Where a thread has less, a text that nests deep ends the process.
+pub const STACK: usize = 4 << 20;
+
+/// The functions of `utoipa.h`, and the codes that are no refusal.
+mod library {
+    /// A command that is given a text alone.
+    pub type Command = unsafe extern "C" fn(
+        text: *const u8,
+        text_length: usize,
+        room: *mut u8,
+        room_length: usize,
+        needed: *mut usize,
+    ) -> u8;
+
+    extern "C" {
+        pub fn utoipa_server(
+            text: *const u8,
+            text_length: usize,
+            room: *mut u8,
+            room_length: usize,
+            needed: *mut usize,
+        ) -> u8;
+        pub fn utoipa_schema(
+            text: *const u8,
+            text_length: usize,
+            room: *mut u8,
+            room_length: usize,
+            needed: *mut usize,
+        ) -> u8;
+        pub fn utoipa_document(
+            text: *const u8,
+            text_length: usize,
+            room: *mut u8,
+            room_length: usize,
+            needed: *mut usize,
+        ) -> u8;
+        pub fn utoipa_merge(
+            text: *const u8,
+            text_length: usize,
+            room: *mut u8,
+            room_length: usize,
+            needed: *mut usize,
+        ) -> u8;
+        pub fn utoipa_nest(
+            base: *const u8,
+            base_length: usize,
+            text: *const u8,
+            text_length: usize,
+            room: *mut u8,
+            room_length: usize,
+            needed: *mut usize,
+        ) -> u8;
+    }
+
+    pub const DONE: u8 = 0;
+    pub const ROOM: u8 = 1;
+}
+
+/// Why a text has no answer.
+///
+/// Which of `Missing`, `Kind`, `Word` and `Alternative` comes is not promised: each says that the text is JSON, with no fraction, and no
+/// document of the kind that is read.
+#[derive(Clone, Copy, Debug, PartialEq, Eq, Hash)]
+pub enum Refusal {
+    /// Memory ran out. This says nothing of the text.
+    Memory,
+    /// The text is no JSON text, or not UTF-8.
+    Text,
+    /// The text is JSON, and a number of it is neither an `i64` nor a `u64`.
+    Fraction,
+    /// A member that is required is absent.
+    Missing,
+    /// A value is of another kind or range.
+    Kind,
+    /// A text is none of the words that may stand there.
+    Word,
+    /// No alternative of a choice fits.
+    Alternative,
+    /// There is no document to merge.
+    Empty,
+    /// There are not two documents, of which the second is to be nested into the first.
+    Count,
+}
+
+impl Refusal {
+    /// The refusals by their codes, from 2 on.
+    const BY_CODE: [Refusal; 9] = [
+        Refusal::Memory,
+        Refusal::Text,
+        Refusal::Fraction,
+        Refusal::Missing,
+        Refusal::Kind,
+        Refusal::Word,
+        Refusal::Alternative,
+        Refusal::Empty,
+        Refusal::Count,
+    ];
+
+    /// The refusal that a code tells.
+    fn of_code(code: u8) -> Refusal {
+        let told = usize::from(code)
+            .checked_sub(2)
+            .and_then(|at| Refusal::BY_CODE.get(at));
+        *told.unwrap_or_else(|| unreachable!("the library has no code {code}"))
+    }
+
+    /// The word by which the command `utoipa_doc` tells it.
+    pub fn word(self) -> &'static str {
+        match self {
+            Refusal::Memory => "memory",
+            Refusal::Text => "text",
+            Refusal::Fraction => "fraction",
+            Refusal::Missing => "missing",
+            Refusal::Kind => "kind",
+            Refusal::Word => "word",
+            Refusal::Alternative => "alternative",
+            Refusal::Empty => "empty",
+            Refusal::Count => "count",
+        }
+    }
+}
+
+impl fmt::Display for Refusal {
+    fn fmt(&self, to: &mut fmt::Formatter<'_>) -> fmt::Result {
+        to.write_str(match self {
+            Refusal::Memory => "memory ran out",
+            Refusal::Text => "the text is no JSON text, or not UTF-8",
+            Refusal::Fraction => "a number is neither an i64 nor a u64",
+            Refusal::Missing => "a member that is required is absent",
+            Refusal::Kind => "a value is of another kind or range",
+            Refusal::Word => "a text is none of the words that may stand there",
+            Refusal::Alternative => "no alternative of a choice fits",
+            Refusal::Empty => "there is no document to merge",
+            Refusal::Count => {
+                "there are not two documents, of which the second is to be nested into the first"
+            }
+        })
+    }
+}
+
+impl std::error::Error for Refusal {}
+
+/// Calls with room for a text of the length and a line feed, and with more room where the answer is longer.
+fn answer(length: usize, call: impl Fn(&mut [u8], &mut usize) -> u8) -> Result<String, Refusal> {
+    let mut room = vec![0; length + 1];
+    loop {
+        let mut needed = 0;
+        match call(&mut room, &mut needed) {
+            library::DONE => {
+                // The line without its line feed.
+                room.truncate(needed - 1);
+                return Ok(String::from_utf8(room).expect("an answer is UTF-8"));
+            }
+            library::ROOM => room.resize(needed, 0),
+            code => return Err(Refusal::of_code(code)),
+        }
+    }
+}
+
+/// The answer of a command that is given a text alone.
+fn answer_by(command: library::Command, text: &[u8]) -> Result<String, Refusal> {
+    answer(text.len(), |room, needed| {
+        // SAFETY: the pointers and lengths are those of slices, and what is borrowed mutably overlaps nothing.
+        unsafe {
+            command(
+                text.as_ptr(),
+                text.len(),
+                room.as_mut_ptr(),
+                room.len(),
+                needed,
+            )
+        }
+    })
+}
+
+/// Reads a Server Object (OpenAPI 3.1, section 4.8.5) and writes it.
+///
+/// # Errors
+///
+/// Fails with why the text has no answer: it is no JSON text, it holds a fraction, it is no such object, or memory ran out.
+pub fn server(text: impl AsRef<[u8]>) -> Result<String, Refusal> {
+    answer_by(library::utoipa_server, text.as_ref())
+}
+
+/// Reads a Schema Object, or a reference to one (section 4.8.24), and writes it.
+///
+/// # Errors
+///
+/// As [`server`].
+pub fn schema(text: impl AsRef<[u8]>) -> Result<String, Refusal> {
+    answer_by(library::utoipa_schema, text.as_ref())
+}
+
+/// Reads an OpenAPI Object (section 4.8.1) and writes it.
+///
+/// # Errors
+///
+/// As [`server`].
+pub fn document(text: impl AsRef<[u8]>) -> Result<String, Refusal> {
+    answer_by(library::utoipa_document, text.as_ref())
+}
+
+/// Reads a list of OpenAPI documents and writes what they are merged into.
+///
+/// # Errors
+///
+/// As [`server`], and with [`Refusal::Empty`] of a list of no documents.
+pub fn merge(text: impl AsRef<[u8]>) -> Result<String, Refusal> {
+    answer_by(library::utoipa_merge, text.as_ref())
+}
+
+/// Reads a list of two OpenAPI documents and writes the first with the second nested into it, its paths behind the base.
+///
+/// # Errors
+///
+/// As [`server`], and with [`Refusal::Count`] of a list of another number of documents.
+pub fn nest(base: &str, text: impl AsRef<[u8]>) -> Result<String, Refusal> {
+    let text = text.as_ref();
+    answer(text.len(), |room, needed| {
+        // SAFETY: as in `answer_by`.
+        unsafe {
+            library::utoipa_nest(
+                base.as_ptr(),
+                base.len(),
+                text.as_ptr(),
+                text.len(),
+                room.as_mut_ptr(),
+                room.len(),
+                needed,
+            )
+        }
+    })
+}
