@@ -1,0 +1,11 @@
+pub mod Examples
+pub mod Apart
+pub mod Found
+pub mod Noting
+pub mod Deciding
+pub mod Listing
+pub mod WhichDecides
+pub mod Listed
+pub mod SameTrees
+pub mod Kept
+pub mod SortedTrees

@@ -1,0 +1,5 @@
+use Rattle.utoipa_conflicts.proofs.Apart.{apart_from_sorted}
+use Rattle.utoipa_conflicts.proofs.holder.push_paths.Goals as goal
+
+pub returns-clause-apart : goal.returns-clause-apart
+returns-clause-apart c = apart_from_sorted c.args.paths.now.entries c.iter-path-items.ensures.ordered

@@ -1,0 +1,11 @@
+use Rattle.std.proofs.Common.{◌≡◌, ◌++◌}
+use Rattle.serde_json.specs.View.{members_view}
+use Rattle.utoipa_conflicts.specs.Conflicts.{one_slot, named_operation}
+use Rattle.utoipa_conflicts.specs.Trees.{each_member}
+use Rattle.utoipa_conflicts.specs.Views.{all_filled}
+use Rattle.utoipa_conflicts.proofs.slot.push_named_operations.Given as goal
+
+abbrev pub invariant-loop-name : goal.invariant-loop-name
+invariant-loop-name l =
+    all_filled l.slots.items ++ each_member (λ name e. one_slot (named_operation l.path name) e) (members_view l.name-iterator)
+    ≡ all_filled l.initial.slots.items ++ each_member (λ name e. one_slot (named_operation l.path name) e) (members_view l.initial.name-iterator)

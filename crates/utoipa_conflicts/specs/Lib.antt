@@ -1,0 +1,10 @@
+pub mod Trees
+pub mod Same
+pub mod Conflicts
+pub mod IsConflict
+pub mod Kept
+pub mod Examples
+pub mod Holders
+pub mod Views
+pub mod Deciders
+pub mod Texts

@@ -1,0 +1,23 @@
+//! What merging OpenAPI documents drops: a merge that says what it drops ([`tree_conflicts`]).
+//!
+//! Where documents are merged, each slot comes from one of them, the first or the last that has what may decide it. A slot is a member of
+//! the document, an entry of a map of components, an operation at a path, and so on; what may decide it, its *holder*, is most often the
+//! slot itself. A value that another document has in the slot is dropped, and that is a conflict unless it is the same value.
+//!
+//! The list is defined over the trees that the documents are written as (`specs/Conflicts.antt`), and once more without a list
+//! (`specs/IsConflict.antt`); that both agree is a clause of [`tree_conflicts`] and a law ([`laws`]).
+//!
+//! Two passes make it, and no document is compared with all others. The first lists the holders of each document (`holder.rt`) and notes for
+//! each holder the document that decides (`deciders.rt`). The second lists the slots of each document (`slot.rt`) and looks up, for each,
+//! what the document that decides has there (`conflict.rt`).
+#![tactic(auto)]
+
+mod conflict;
+mod deciders;
+mod holder;
+pub mod laws;
+mod same;
+mod slot;
+
+pub use conflict::{Conflict, tree_conflicts};
+pub use same::is_same;
