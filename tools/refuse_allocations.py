@@ -111,7 +111,7 @@ COMMAND_TELLS = [Outcome(1, "", "refused: memory\n")]
 # ---- The calls of the programs of cases: lines of crates/PROGRAM/stdin, by how they begin. Those of the command's runs are not tried:
 # the command itself is, above.
 
-CASE_PROGRAMS = ("utoipa_cases", "utoipa_document_cases")
+CASE_PROGRAMS = ("utoipa_cases", "utoipa_document_cases", "utoipa_check_cases")
 
 # Longer lines are not tried: those that merge 200 documents make thousands of requests, and each request takes a run of its own.
 LONGEST = 10000
@@ -148,6 +148,16 @@ CASES = [
     ("openapi-of ", 1, []),
     ("responses-from ", 1, ["refused: memory"]),
     ("component-from ", 1, ["refused: memory", "refused: out of memory"]),
+    # Look through a tree.
+    ("misfits ", 2, ["no JSON"]),
+    ("visits ", 1, ["no JSON"]),
+    ("doubts ", 2, ["no JSON"]),
+    ("references ", 2, ["no JSON"]),
+    ("conflicts\t", 10, ["no list"]),
+    ("between\t", 6, ["no tree"]),
+    ("dropped ", 3, ["refused: memory", "no tree"]),
+    # Reads a text, and tells where it is refused.
+    ("located ", 3, ["out of memory"]),
 ]
 
 # What a program of cases says on standard error, with status 1, where its own reading or writing of lines was refused memory.
