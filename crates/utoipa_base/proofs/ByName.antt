@@ -141,7 +141,7 @@ entry_and_others : (l : List ℕ) (a : Option Doc) (b : Option Entries) (e : Doc
 entry_and_others l a b e es first others = rw (first, others)
 
 -- entries that were read are the first and the others
-first_and_others : (l : List ℕ) (a : Option Doc) (b : Option Entries) (es : Entries) → both_entries l a b ≡ Some es → (e : Doc) × (fs : Entries) × (a ≡ Some e) × (b ≡ Some fs) × (es ≡ entry l e fs)
+pub first_and_others : (l : List ℕ) (a : Option Doc) (b : Option Entries) (es : Entries) → both_entries l a b ≡ Some es → (e : Doc) × (fs : Entries) × (a ≡ Some e) × (b ≡ Some fs) × (es ≡ entry l e fs)
 first_and_others l None b es h = cc
 first_and_others l (Some e) None es h = cc
 first_and_others l (Some e) (Some fs) es h = (e, fs, refl, refl, cc)

@@ -44,3 +44,10 @@ pub mod Built
 pub mod Building
 pub mod SendingAmong
 pub mod NameHashes
+pub mod TokenGrammar
+pub mod TokenTrees
+pub mod TokenLists
+pub mod TokenMembers
+pub mod TokenMaps
+pub mod TokenTables
+pub mod TokenOrderedMaps

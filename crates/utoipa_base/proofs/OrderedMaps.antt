@@ -69,13 +69,13 @@ ordered_by_entries k d es o is read_as = read-ordered_map k d ∙ ap (option_and
 -- ---- a new name comes last
 
 -- a name that is none of the entries' is put last
-insert_new : {X : Type 0} (es : List (String Global × X)) (name : String Global) (v : X) → AllByRecursion (λ k. string_eq name k ≡ false) (keys_of es) → insert_entry string_eq es name v ≡ es ++ (name, v) ∷ []
+pub insert_new : {X : Type 0} (es : List (String Global × X)) (name : String Global) (v : X) → AllByRecursion (λ k. string_eq name k ≡ false) (keys_of es) → insert_entry string_eq es name v ≡ es ++ (name, v) ∷ []
 insert_new [] name v h = refl
 insert_new (x ∷ es) name v h =
     ap (λ b. cond b ((x.0, v) ∷ es) (x ∷ insert_entry string_eq es name v)) h.0 ∙ ap (λ l. x ∷ l) (insert_new es name v h.1)
 
 -- names that come before another are not that name
-names_before : {X Y : Type 0} (es : List (String Global × Y)) (done : List (String Global × X)) (e : String Global × X) (more : List (String Global × X)) (name : String Global)
+pub names_before : {X Y : Type 0} (es : List (String Global × Y)) (done : List (String Global × X)) (e : String Global × X) (more : List (String Global × X)) (name : String Global)
     → texts es ≡ texts done → IsStrictlySortedBy string_cmp (keys_of (done ++ e ∷ more)) → string_bytes name ≡ string_bytes e.0 → AllByRecursion (λ k. string_eq name k ≡ false) (keys_of es)
 unfolding IsStrictlySortedBy
 names_before [] done e more name same sorted is = tt

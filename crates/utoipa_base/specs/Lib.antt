@@ -35,3 +35,6 @@ pub mod Events
 pub mod Sent
 pub mod Build
 pub mod SentAmong
+pub mod FromTokens
+pub mod OpenRows
+pub mod Texts

@@ -8,7 +8,7 @@ use crate::fault::ReadFault;
 use crate::readings::Readings;
 use crate::scalar::read_flag;
 use crate::sink::JsonSink;
-use crate::tree::Tree;
+use crate::tree::{Place, Tree};
 use serde_json::Value;
 use std::alloc::{AllocError, Global};
 
@@ -41,6 +41,12 @@ impl Tree for Deprecated {
 
     fn try_clone(&self, _alloc: Global) -> Result<Deprecated, AllocError> {
         Ok(*self)
+    }
+}
+
+impl Place for Deprecated {
+    fn is_schema() -> bool {
+        false
     }
 }
 

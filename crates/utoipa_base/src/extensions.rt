@@ -15,6 +15,7 @@ use std::collections::BTreeMap;
 
 mod trees;
 
+pub(crate) use trees::extensions_if_any;
 pub use trees::{clone_extensions, is_extension_name, read_extensions};
 
 /// Specification extensions (OpenAPI 3.1, section 4.9): members of an object whose names begin `x-`, in the order of their

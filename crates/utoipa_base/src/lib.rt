@@ -20,6 +20,7 @@ pub mod lists;
 pub mod name_hasher;
 pub mod number;
 pub mod omit;
+pub mod open_table;
 pub mod ordered_map;
 pub mod pending;
 mod print;
@@ -32,7 +33,10 @@ pub mod same_trees;
 mod scalar;
 pub mod sink;
 pub mod table;
+mod text;
+pub mod token_tree;
 pub mod tree;
+pub mod unread;
 pub mod words;
 
 pub use all_or_none::put_all;
@@ -46,7 +50,7 @@ pub use emit_rows::{
     EmitRow, EmitRows, emit_defaulted, emit_optional, emit_or_null, emit_required, emit_table,
 };
 pub use empty::{Empty, row_or_empty};
-pub use entries::{emit_entries, read_entries};
+pub use entries::{emit_entries, entries_from_tokens, read_entries};
 pub use extensions::{
     Extensions, ExtensionsBuilder, clone_extensions, is_extension_name, read_extensions,
 };
@@ -58,6 +62,7 @@ pub use lists::{list_from, list_if_any};
 pub use name_hasher::NameHasher;
 pub use number::Number;
 pub use omit::Omit;
+pub use open_table::table_from_tokens;
 pub use ordered_map::OrderedMap;
 pub use pending::PendingExtensions;
 pub use readings::{Counted, Readings};
@@ -67,5 +72,7 @@ pub use rows::{clone_option, row_default, row_option, row_or_null, row_required}
 pub use same_trees::{same_members, same_tree};
 pub use sink::JsonSink;
 pub use table::{clone_rows, read_table, read_table_alone};
+pub use token_tree::next_tree;
 pub use tree::{Place, Tree};
+pub use unread::Unread;
 pub use words::{Word, emit_word, read_word};

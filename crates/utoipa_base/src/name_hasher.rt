@@ -5,7 +5,7 @@ ghost use Rattle.std.specs.Hash.DefaultHasher as sip;
 ghost use Rattle.std.specs.Map.{keys_of};
 ghost use Rattle.utoipa_base.specs.NameHashes.{salt_of_names};
 
-use serde_json::{Map, Value};
+use std::collections::BTreeMap;
 use std::hash::{BuildHasher, DefaultHasher, Hash, Hasher};
 
 /// Makes the hashers of an [`OrderedMap`](crate::OrderedMap): each begins with a salt.
@@ -33,8 +33,8 @@ impl NameHasher {
         NameHasher { salt }
     }
 
-    /// The hasher whose salt is the hash of all names of an object, in their order and each with its end.
-    pub fn from_names(object: &Map<String, Value>) -> NameHasher
+    /// The hasher whose salt is the hash of all names of an object or a map, in their order and each with its end.
+    pub fn from_names<T>(object: &BTreeMap<String, T>) -> NameHasher
         ensures { result.salt ≡ salt_of_names (keys_of object.now.entries) }
     {
         let mut state = DefaultHasher::new();

@@ -8,7 +8,7 @@ use crate::emit::{Documented, Emit};
 use crate::fault::ReadFault;
 use crate::readings::Readings;
 use crate::sink::JsonSink;
-use crate::tree::Tree;
+use crate::tree::{Place, Tree};
 use serde_json::Value;
 use std::alloc::{AllocError, Global};
 
@@ -44,6 +44,12 @@ impl Tree for Number {
 
     fn try_clone(&self, _alloc: Global) -> Result<Number, AllocError> {
         Ok(*self)
+    }
+}
+
+impl Place for Number {
+    fn is_schema() -> bool {
+        false
     }
 }
 

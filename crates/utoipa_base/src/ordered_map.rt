@@ -1,5 +1,6 @@
 //! Maps that keep the order in which their entries were put.
-ghost use Rattle.std.specs.Prelude.{◌≡◌, IfOk};
+ghost use Rattle.std.specs.Prelude.{◌≡◌, IfOk, string_cmp};
+ghost use Rattle.std.specs.BTreeMap.{IsOrdered};
 ghost use Rattle.serde_json.specs.Data.{no_members};
 ghost use Rattle.utoipa_base.specs.Kinds.{ordered_map_of};
 ghost use Rattle.utoipa_base.specs.OfKind.{ordered_map_of_kind};
@@ -14,7 +15,9 @@ use crate::name_hasher::NameHasher;
 use crate::readings::Readings;
 use crate::sink::JsonSink;
 use crate::tree::{Place, Tree};
+use crate::unread::Unread;
 use indexmap::IndexMap;
+use json::{Reader, Token};
 use serde_json::Value;
 use std::alloc::{AllocError, Global};
 use std::collections::BTreeMap;
@@ -44,6 +47,19 @@ impl<T: Tree> Tree for OrderedMap<T> {
             drop(map.insert(name, value)?);
         }
         Ok(map)
+    }
+
+    fn from_tokens(
+        alloc: Global,
+        first: Token<'_>,
+        reader: &mut Reader<'_>,
+        depth: usize,
+        readings: &mut Readings,
+    ) -> Result<OrderedMap<T>, Unread> {
+        let entries: BTreeMap<String, T> = BTreeMap::from_tokens(
+            alloc, first, reader, depth, readings,
+        )?;
+        Ok(in_order_of_names(alloc, entries)?)
     }
 
     fn try_clone(&self, alloc: Global) -> Result<OrderedMap<T>, AllocError> {
@@ -89,6 +105,21 @@ impl<T: Emit, H: BuildHasher + Drop> Emit for IndexMap<String, T, H> {
         }
         out.end_object()
     }
+}
+
+// The same entries, under hashes that are salted with their names. Fails where memory runs out.
+fn in_order_of_names<T: Tree>(
+    alloc: Global,
+    entries: BTreeMap<String, T>,
+) -> Result<OrderedMap<T>, AllocError>
+    ensures same { IfOk result (λ map. map.entries ≡ entries.entries) }
+    ensures ordered { IsOrdered string_cmp entries }
+{
+    let mut map = IndexMap::with_hasher(alloc, NameHasher::from_names(&entries));
+    for (name, value) in entries {
+        drop(map.insert(name, value)?);
+    }
+    Ok(map)
 }
 
 /// The entries of a map in the order of their names. Fails where memory runs out.

@@ -146,6 +146,12 @@ impl Tree for Ref {
     }
 }
 
+impl Place for Ref {
+    fn is_schema() -> bool {
+        false
+    }
+}
+
 /// A reference, or else a value in its place.
 #[tactic(auto, using(crate::proofs::Places::by_places))]
 impl<T: Place> Tree for RefOr<T> {

@@ -1,12 +1,17 @@
-ghost use Rattle.std.specs.Prelude.{◌≡◌, ◌≤◌, ◌<◌, ◌+◌, ◌++◌, ◌↔◌, true, false, IsErrOf, Some, IfOk, IfErr};
+ghost use Rattle.std.specs.Prelude.{◌≡◌, ◌≤◌, ◌<◌, ◌+◌, ◌++◌, ◌∷◌, ◌↔◌, length, true, false, IsErrOf, Some, IfOk, IfErr, OnOk};
+ghost use Rattle.json.specs.Reads.{token_of};
+ghost use Rattle.serde_json.specs.Data.{Data};
+ghost use Rattle.serde_json.specs.Read.{read as read_text};
 ghost use Rattle.serde_json.specs.View.{view};
 ghost use Rattle.serde_json.specs.Written.{has_float, compact_text};
 ghost use Rattle.utoipa_base.specs.Kinds.{ref_or};
 ghost use Rattle.utoipa_base.specs.Faults.{Refuses};
+ghost use Rattle.utoipa_base.specs.FromTokens.{FromTokens};
 ghost use Rattle.utoipa_base.specs.Reading.{read};
 ghost use Rattle.utoipa_base.specs.Reads.{Reads};
 ghost use Rattle.utoipa_base.specs.Refs.{ref_or_doc};
 ghost use Rattle.utoipa_base.specs.Shape.{IsOf, value_of};
+ghost use Rattle.utoipa_base.specs.Texts.{IsTextOf, RefusesText};
 ghost use Rattle.utoipa_base.specs.Values.{values, schema_count, is_schema};
 ghost use Rattle.utoipa_base.specs.OfKind.{text_of_kind, flag_of_kind, whole_of_kind, tree_of_kind, list_of_kind, map_of_kind};
 ghost use Rattle.utoipa_base.specs.Writing.{write};
@@ -18,6 +23,10 @@ use crate::fraction::has_fraction;
 use crate::readings::{Counted, Readings};
 use crate::refs::{Ref, RefOr};
 use crate::scalar::{read_flag, read_text, read_whole};
+use crate::text::from_text;
+use crate::token_tree::next_tree;
+use crate::unread::Unread;
+use json::{Reader, Token};
 use serde_json::Value;
 use std::alloc::{AllocError, Global};
 use std::collections::BTreeMap;
@@ -33,6 +42,26 @@ pub trait Tree: Emit {
     /// Answers no `Fraction`: where the tree holds one, it is judged by its kind like any other value.
     fn read_plain(alloc: Global, tree: &Value, readings: &mut Readings) -> Result<Self, ReadFault>
         ensures { Reads (read Self.kind (view tree.now)) Self.doc result readings.old readings.new (values (view tree.now)) };
+
+    /// Reads the value from the tokens of a text, and counts the schema readings on the way: it begins with the token `first` and goes
+    /// on with those that the reader has, and nests no deeper than `depth`.
+    ///
+    /// Fails where the tokens are no such value, where a number of it is a fraction, where an entry comes twice, and where memory runs
+    /// out. But for memory, that says nothing of the text: it is to be read from its tree.
+    fn from_tokens(
+        alloc: Global,
+        first: Token<'_>,
+        reader: &mut Reader<'_>,
+        depth: usize,
+        readings: &mut Readings,
+    ) -> Result<Self, Unread>
+        ensures read { IfOk result (λ v. FromTokens (read Self.kind) Self.doc v
+            depth (token_of first.entry ∷ reader.old) reader.new readings.old readings.new) }
+        ensures left { OnOk result (length reader.new ≤ length reader.old) }
+    {
+        let tree = next_tree(alloc, first, reader, depth)?;
+        Ok(Self::read_plain(alloc, &tree, readings)?)
+    }
 
     /// An equal value. Fails where memory runs out.
     fn try_clone(&self, alloc: Global) -> Result<Self, AllocError>
@@ -82,6 +111,30 @@ pub trait Tree: Emit {
             outcome,
             readings: readings.number(),
         }
+    }
+
+    /// Reads a JSON text: its tokens, and where these are not enough its tree, so that a text that is refused is read twice.
+    ///
+    /// Answers `Text` exactly where the text is no JSON, `Fraction` exactly where a number of it is neither an `i64` nor a `u64`, and
+    /// else what [`Tree::from_value`] answers of the text's tree; `Memory`, which says nothing of the text, where memory runs out.
+    final fn from_json_text(alloc: Global, text: &str) -> Result<Self, ReadFault>
+        ensures ok { IfOk result (λ v. IsTextOf Self.kind (Self.doc v) text.now) }
+        ensures err { IfErr result (RefusesText Self.kind text.now) }
+    {
+        from_text::<Self>(alloc, text).outcome
+    }
+
+    /// Reads a JSON text as [`Tree::from_json_text`] does, and counts the schema readings.
+    ///
+    /// There are at most as many readings as the text's tree has values, also where it is refused, and at least as many as the document
+    /// has schemas, up to the greatest `u64`.
+    final fn from_json_text_counted(alloc: Global, text: &str) -> Counted<Self>
+        ensures ok { IfOk result.outcome (λ v. IsTextOf Self.kind (Self.doc v) text.now) }
+        ensures err { IfErr result.outcome (RefusesText Self.kind text.now) }
+        ensures at_most { (tree : Data) → read_text text.now ≡ Some tree → result.readings ≤ values tree }
+        ensures at_least { IfOk result.outcome (λ v. result.readings < u64.MAX → schema_count (Self.doc v) ≤ result.readings) }
+    {
+        from_text(alloc, text)
     }
 
     /// The tree that the value is written as. Fails where memory runs out.
@@ -195,6 +248,12 @@ impl Tree for usize {
     }
 }
 
+impl Place for usize {
+    fn is_schema() -> bool {
+        false
+    }
+}
+
 /// Any tree.
 #[tactic(auto, using(crate::proofs::ByKind::by_kind, crate::proofs::Places::places))]
 impl Tree for Value {
@@ -233,6 +292,28 @@ impl<T: Tree> Tree for Vec<T> {
         Ok(list)
     }
 
+    fn from_tokens(
+        alloc: Global,
+        first: Token<'_>,
+        reader: &mut Reader<'_>,
+        depth: usize,
+        readings: &mut Readings,
+    ) -> Result<Vec<T>, Unread> {
+        let Token::BeginArray = first else {
+            return Err(Unread::AsTree);
+        };
+        if depth == 0 {
+            return Err(Unread::AsTree);
+        }
+        let mut list = Vec::new(alloc);
+        'items: while !reader.take_end_array() {
+            let token = reader.next().ok_or(Unread::AsTree)?;
+            let item = T::from_tokens(alloc, token, reader, depth - 1, readings)?;
+            list.push(item)?;
+        }
+        Ok(list)
+    }
+
     fn try_clone(&self, alloc: Global) -> Result<Vec<T>, AllocError> {
         let mut list = Vec::new(alloc);
         for item in self {
@@ -260,6 +341,32 @@ impl<T: Tree> Tree for BTreeMap<String, T> {
             let name = key.clone()?;
             let value = T::read_plain(alloc, member, readings)?;
             drop(map.insert(name, value)?);
+        }
+        Ok(map)
+    }
+
+    fn from_tokens(
+        alloc: Global,
+        first: Token<'_>,
+        reader: &mut Reader<'_>,
+        depth: usize,
+        readings: &mut Readings,
+    ) -> Result<BTreeMap<String, T>, Unread> {
+        let Token::BeginObject = first else {
+            return Err(Unread::AsTree);
+        };
+        if depth == 0 {
+            return Err(Unread::AsTree);
+        }
+        let mut map = BTreeMap::new(alloc);
+        'members: while let Some(key) = reader.next_key()? {
+            let name = String::from_str(alloc, key)?;
+            let token = reader.next().ok_or(Unread::AsTree)?;
+            let value = T::from_tokens(alloc, token, reader, depth - 1, readings)?;
+            let earlier = map.insert(name, value)?;
+            if earlier.is_some() {
+                return Err(Unread::AsTree);
+            }
         }
         Ok(map)
     }

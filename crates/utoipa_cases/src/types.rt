@@ -32,28 +32,16 @@ pub fn answer_of_type(
     name: &str,
     text: &str,
 ) -> Result<String, AllocError> {
-    match Value::from_str(alloc, text) {
-        Ok(tree) => of_base(alloc, question, name, &tree),
-        Err(_) => String::from_str(alloc, "no tree"),
-    }
-}
-
-fn of_base(
-    alloc: Global,
-    question: Question,
-    name: &str,
-    tree: &Value,
-) -> Result<String, AllocError> {
     match name {
-        "String" => answered::<String>(alloc, question, tree),
-        "bool" => answered::<bool>(alloc, question, tree),
-        "usize" => answered::<usize>(alloc, question, tree),
-        "Value" => answered::<Value>(alloc, question, tree),
-        "Number" => answered::<Number>(alloc, question, tree),
-        "Deprecated" => answered::<Deprecated>(alloc, question, tree),
-        "Required" => answered::<Required>(alloc, question, tree),
-        "Ref" => answered::<Ref>(alloc, question, tree),
-        _ => of_containers(alloc, question, name, tree),
+        "String" => answered::<String>(alloc, question, text),
+        "bool" => answered::<bool>(alloc, question, text),
+        "usize" => answered::<usize>(alloc, question, text),
+        "Value" => answered::<Value>(alloc, question, text),
+        "Number" => answered::<Number>(alloc, question, text),
+        "Deprecated" => answered::<Deprecated>(alloc, question, text),
+        "Required" => answered::<Required>(alloc, question, text),
+        "Ref" => answered::<Ref>(alloc, question, text),
+        _ => of_containers(alloc, question, name, text),
     }
 }
 
@@ -61,27 +49,27 @@ fn of_containers(
     alloc: Global,
     question: Question,
     name: &str,
-    tree: &Value,
+    text: &str,
 ) -> Result<String, AllocError> {
     match name {
-        "Vec<String>" => answered::<Vec<String>>(alloc, question, tree),
-        "Vec<bool>" => answered::<Vec<bool>>(alloc, question, tree),
-        "Vec<Value>" => answered::<Vec<Value>>(alloc, question, tree),
-        "BTreeMap<String, bool>" => answered::<BTreeMap<String, bool>>(alloc, question, tree),
+        "Vec<String>" => answered::<Vec<String>>(alloc, question, text),
+        "Vec<bool>" => answered::<Vec<bool>>(alloc, question, text),
+        "Vec<Value>" => answered::<Vec<Value>>(alloc, question, text),
+        "BTreeMap<String, bool>" => answered::<BTreeMap<String, bool>>(alloc, question, text),
         "BTreeMap<String, Vec<usize>>" => {
-            answered::<BTreeMap<String, Vec<usize>>>(alloc, question, tree)
+            answered::<BTreeMap<String, Vec<usize>>>(alloc, question, text)
         }
-        "RefOr<bool>" => answered::<RefOr<bool>>(alloc, question, tree),
-        "RefOr<String>" => answered::<RefOr<String>>(alloc, question, tree),
-        "RefOr<Value>" => answered::<RefOr<Value>>(alloc, question, tree),
-        "RefOr<Vec<String>>" => answered::<RefOr<Vec<String>>>(alloc, question, tree),
-        "RefOr<Example>" => answered::<RefOr<Example>>(alloc, question, tree),
-        "RefOr<Schema>" => answered::<RefOr<Schema>>(alloc, question, tree),
-        "Vec<RefOr<Schema>>" => answered::<Vec<RefOr<Schema>>>(alloc, question, tree),
+        "RefOr<bool>" => answered::<RefOr<bool>>(alloc, question, text),
+        "RefOr<String>" => answered::<RefOr<String>>(alloc, question, text),
+        "RefOr<Value>" => answered::<RefOr<Value>>(alloc, question, text),
+        "RefOr<Vec<String>>" => answered::<RefOr<Vec<String>>>(alloc, question, text),
+        "RefOr<Example>" => answered::<RefOr<Example>>(alloc, question, text),
+        "RefOr<Schema>" => answered::<RefOr<Schema>>(alloc, question, text),
+        "Vec<RefOr<Schema>>" => answered::<Vec<RefOr<Schema>>>(alloc, question, text),
         "BTreeMap<String, RefOr<Schema>>" => {
-            answered::<BTreeMap<String, RefOr<Schema>>>(alloc, question, tree)
+            answered::<BTreeMap<String, RefOr<Schema>>>(alloc, question, text)
         }
-        _ => of_leaves(alloc, question, name, tree),
+        _ => of_leaves(alloc, question, name, text),
     }
 }
 
@@ -89,23 +77,23 @@ fn of_leaves(
     alloc: Global,
     question: Question,
     name: &str,
-    tree: &Value,
+    text: &str,
 ) -> Result<String, AllocError> {
     match name {
-        "Info" => answered::<Info>(alloc, question, tree),
-        "Contact" => answered::<Contact>(alloc, question, tree),
-        "License" => answered::<License>(alloc, question, tree),
-        "ExternalDocs" => answered::<ExternalDocs>(alloc, question, tree),
-        "Server" => answered::<Server>(alloc, question, tree),
-        "ServerVariable" => answered::<ServerVariable>(alloc, question, tree),
-        "Tag" => answered::<Tag>(alloc, question, tree),
-        "Xml" => answered::<Xml>(alloc, question, tree),
-        "Example" => answered::<Example>(alloc, question, tree),
-        "OpenApiVersion" => answered::<OpenApiVersion>(alloc, question, tree),
-        "HttpMethod" => answered::<HttpMethod>(alloc, question, tree),
-        "ParameterIn" => answered::<ParameterIn>(alloc, question, tree),
-        "ParameterStyle" => answered::<ParameterStyle>(alloc, question, tree),
-        _ => of_media(alloc, question, name, tree),
+        "Info" => answered::<Info>(alloc, question, text),
+        "Contact" => answered::<Contact>(alloc, question, text),
+        "License" => answered::<License>(alloc, question, text),
+        "ExternalDocs" => answered::<ExternalDocs>(alloc, question, text),
+        "Server" => answered::<Server>(alloc, question, text),
+        "ServerVariable" => answered::<ServerVariable>(alloc, question, text),
+        "Tag" => answered::<Tag>(alloc, question, text),
+        "Xml" => answered::<Xml>(alloc, question, text),
+        "Example" => answered::<Example>(alloc, question, text),
+        "OpenApiVersion" => answered::<OpenApiVersion>(alloc, question, text),
+        "HttpMethod" => answered::<HttpMethod>(alloc, question, text),
+        "ParameterIn" => answered::<ParameterIn>(alloc, question, text),
+        "ParameterStyle" => answered::<ParameterStyle>(alloc, question, text),
+        _ => of_media(alloc, question, name, text),
     }
 }
 
@@ -113,22 +101,22 @@ fn of_media(
     alloc: Global,
     question: Question,
     name: &str,
-    tree: &Value,
+    text: &str,
 ) -> Result<String, AllocError> {
     match name {
-        "Content" => answered::<Content>(alloc, question, tree),
-        "Encoding" => answered::<Encoding>(alloc, question, tree),
-        "Header" => answered::<Header>(alloc, question, tree),
-        "Link" => answered::<Link>(alloc, question, tree),
-        "RequestBody" => answered::<RequestBody>(alloc, question, tree),
-        "Response" => answered::<Response>(alloc, question, tree),
-        "Responses" => answered::<Responses>(alloc, question, tree),
-        "Parameter" => answered::<Parameter>(alloc, question, tree),
-        "RefOr<Content>" => answered::<RefOr<Content>>(alloc, question, tree),
-        "RefOr<Header>" => answered::<RefOr<Header>>(alloc, question, tree),
-        "RefOr<Link>" => answered::<RefOr<Link>>(alloc, question, tree),
-        "RefOr<Response>" => answered::<RefOr<Response>>(alloc, question, tree),
-        _ => of_schemas(alloc, question, name, tree),
+        "Content" => answered::<Content>(alloc, question, text),
+        "Encoding" => answered::<Encoding>(alloc, question, text),
+        "Header" => answered::<Header>(alloc, question, text),
+        "Link" => answered::<Link>(alloc, question, text),
+        "RequestBody" => answered::<RequestBody>(alloc, question, text),
+        "Response" => answered::<Response>(alloc, question, text),
+        "Responses" => answered::<Responses>(alloc, question, text),
+        "Parameter" => answered::<Parameter>(alloc, question, text),
+        "RefOr<Content>" => answered::<RefOr<Content>>(alloc, question, text),
+        "RefOr<Header>" => answered::<RefOr<Header>>(alloc, question, text),
+        "RefOr<Link>" => answered::<RefOr<Link>>(alloc, question, text),
+        "RefOr<Response>" => answered::<RefOr<Response>>(alloc, question, text),
+        _ => of_schemas(alloc, question, name, text),
     }
 }
 
@@ -136,23 +124,23 @@ fn of_schemas(
     alloc: Global,
     question: Question,
     name: &str,
-    tree: &Value,
+    text: &str,
 ) -> Result<String, AllocError> {
     match name {
-        "Schema" => answered::<Schema>(alloc, question, tree),
-        "Object" => answered::<Object>(alloc, question, tree),
-        "Array" => answered::<Array>(alloc, question, tree),
-        "OneOf" => answered::<OneOf>(alloc, question, tree),
-        "AllOf" => answered::<AllOf>(alloc, question, tree),
-        "AnyOf" => answered::<AnyOf>(alloc, question, tree),
-        "ArrayItems" => answered::<ArrayItems>(alloc, question, tree),
-        "AdditionalProperties" => answered::<AdditionalProperties<Schema>>(alloc, question, tree),
-        "Discriminator" => answered::<Discriminator>(alloc, question, tree),
-        "SchemaType" => answered::<SchemaType>(alloc, question, tree),
-        "TypeWord" => answered::<TypeWord>(alloc, question, tree),
-        "SchemaFormat" => answered::<SchemaFormat>(alloc, question, tree),
-        "KnownFormat" => answered::<KnownFormat>(alloc, question, tree),
-        _ => of_security(alloc, question, name, tree),
+        "Schema" => answered::<Schema>(alloc, question, text),
+        "Object" => answered::<Object>(alloc, question, text),
+        "Array" => answered::<Array>(alloc, question, text),
+        "OneOf" => answered::<OneOf>(alloc, question, text),
+        "AllOf" => answered::<AllOf>(alloc, question, text),
+        "AnyOf" => answered::<AnyOf>(alloc, question, text),
+        "ArrayItems" => answered::<ArrayItems>(alloc, question, text),
+        "AdditionalProperties" => answered::<AdditionalProperties<Schema>>(alloc, question, text),
+        "Discriminator" => answered::<Discriminator>(alloc, question, text),
+        "SchemaType" => answered::<SchemaType>(alloc, question, text),
+        "TypeWord" => answered::<TypeWord>(alloc, question, text),
+        "SchemaFormat" => answered::<SchemaFormat>(alloc, question, text),
+        "KnownFormat" => answered::<KnownFormat>(alloc, question, text),
+        _ => of_security(alloc, question, name, text),
     }
 }
 
@@ -160,23 +148,23 @@ fn of_security(
     alloc: Global,
     question: Question,
     name: &str,
-    tree: &Value,
+    text: &str,
 ) -> Result<String, AllocError> {
     match name {
-        "SecurityRequirement" => answered::<SecurityRequirement>(alloc, question, tree),
-        "SecurityScheme" => answered::<SecurityScheme>(alloc, question, tree),
-        "ApiKey" => answered::<ApiKey>(alloc, question, tree),
-        "ApiKeyValue" => answered::<ApiKeyValue>(alloc, question, tree),
-        "Http" => answered::<Http>(alloc, question, tree),
-        "HttpAuthScheme" => answered::<HttpAuthScheme>(alloc, question, tree),
-        "OpenIdConnect" => answered::<OpenIdConnect>(alloc, question, tree),
-        "OAuth2" => answered::<OAuth2>(alloc, question, tree),
-        "Scopes" => answered::<Scopes>(alloc, question, tree),
-        "Implicit" => answered::<Implicit>(alloc, question, tree),
-        "Password" => answered::<Password>(alloc, question, tree),
-        "ClientCredentials" => answered::<ClientCredentials>(alloc, question, tree),
-        "AuthorizationCode" => answered::<AuthorizationCode>(alloc, question, tree),
-        "DeviceAuthorization" => answered::<DeviceAuthorization>(alloc, question, tree),
+        "SecurityRequirement" => answered::<SecurityRequirement>(alloc, question, text),
+        "SecurityScheme" => answered::<SecurityScheme>(alloc, question, text),
+        "ApiKey" => answered::<ApiKey>(alloc, question, text),
+        "ApiKeyValue" => answered::<ApiKeyValue>(alloc, question, text),
+        "Http" => answered::<Http>(alloc, question, text),
+        "HttpAuthScheme" => answered::<HttpAuthScheme>(alloc, question, text),
+        "OpenIdConnect" => answered::<OpenIdConnect>(alloc, question, text),
+        "OAuth2" => answered::<OAuth2>(alloc, question, text),
+        "Scopes" => answered::<Scopes>(alloc, question, text),
+        "Implicit" => answered::<Implicit>(alloc, question, text),
+        "Password" => answered::<Password>(alloc, question, text),
+        "ClientCredentials" => answered::<ClientCredentials>(alloc, question, text),
+        "AuthorizationCode" => answered::<AuthorizationCode>(alloc, question, text),
+        "DeviceAuthorization" => answered::<DeviceAuthorization>(alloc, question, text),
         _ => String::from_str(alloc, "no such type"),
     }
 }

@@ -12,12 +12,13 @@ ghost use Rattle.utoipa_paths.specs.Paths.{paths_doc, paths_of_kind, built_paths
 use crate::builder::PathsBuilder;
 use crate::items::{merge_items, put_under};
 use crate::merging::merged_extensions;
+use json::{Reader, Token};
 use serde_json::Value;
 use std::alloc::{AllocError, Global};
 use std::collections::BTreeMap;
 use utoipa_base::{
-    Documented, Emit, Extensions, JsonSink, ReadFault, Readings, Tree, clone_extensions,
-    emit_entries, read_entries,
+    Documented, Emit, Extensions, JsonSink, Place, ReadFault, Readings, Tree, Unread,
+    clone_extensions, emit_entries, entries_from_tokens, read_entries,
 };
 use utoipa_leaf::path::HttpMethod;
 use utoipa_path::methods::{operation_of, take_operations};
@@ -144,10 +145,27 @@ impl Tree for Paths {
         Ok(Paths { paths, extensions })
     }
 
+    fn from_tokens(
+        alloc: Global,
+        first: Token<'_>,
+        reader: &mut Reader<'_>,
+        depth: usize,
+        readings: &mut Readings,
+    ) -> Result<Paths, Unread> {
+        let (paths, extensions) = entries_from_tokens(alloc, first, reader, depth, readings)?;
+        Ok(Paths { paths, extensions })
+    }
+
     fn try_clone(&self, alloc: Global) -> Result<Paths, AllocError> {
         Ok(Paths {
             paths: self.paths.try_clone(alloc)?,
             extensions: clone_extensions(alloc, &self.extensions)?,
         })
+    }
+}
+
+impl Place for Paths {
+    fn is_schema() -> bool {
+        false
     }
 }

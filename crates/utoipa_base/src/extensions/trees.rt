@@ -1,7 +1,7 @@
 // Extensions as members of an object's tree.
 ghost use Rattle.std.specs.Prelude.{◌≡◌, true, option_map, IfOk, string_bytes};
-ghost use Rattle.serde_json.specs.View.{view};
-ghost use Rattle.utoipa_base.specs.Extensions.{extensions_view, is_extension, extension_name, extensions_at};
+ghost use Rattle.serde_json.specs.View.{view, members_view};
+ghost use Rattle.utoipa_base.specs.Extensions.{extensions_view, is_extension, extension_name, extensions_at, some_if_any};
 
 use crate::extensions::Extensions;
 use serde_json::Value;
@@ -49,6 +49,16 @@ pub fn read_extensions(alloc: Global, tree: &Value) -> Result<Option<Extensions>
         return Ok(None);
     }
     Ok(Some(Extensions { entries }))
+}
+
+/// The extensions of these members, which are all that an object has: None where there are none. Takes no memory.
+pub(crate) fn extensions_if_any(entries: BTreeMap<String, Value>) -> Option<Extensions>
+    ensures { option_map extensions_view result ≡ some_if_any (members_view entries.entries) }
+{
+    if entries.is_empty() {
+        return None;
+    }
+    Some(Extensions { entries })
 }
 
 /// Equal extensions, where there are any. Fails where memory runs out.

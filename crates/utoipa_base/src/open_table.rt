@@ -1,0 +1,305 @@
+//! A member table read from the tokens of a text, whose members come in any order.
+ghost use Rattle.std.specs.Prelude.{◌≡◌, ◌≤◌, ◌∷◌, [], ◌+◌, ℕ, List, Option, None, Some, length, true, false, option_map, IfOk, IfSome, OnOk, IsTrue, refl};
+ghost use Rattle.json.specs.Reads.{token_of};
+ghost use Rattle.serde_json.specs.Data.{no_members};
+ghost use Rattle.utoipa_base.specs.Docs.{Doc, table_doc};
+ghost use Rattle.utoipa_base.specs.Extensions.{extensions_view};
+ghost use Rattle.utoipa_base.specs.Fields.{field_of};
+ghost use Rattle.utoipa_base.specs.FromTokens.{FromTokens};
+ghost use Rattle.utoipa_base.specs.Kinds.{ObjectType, named};
+ghost use Rattle.utoipa_base.specs.OpenRows.{AreHeld, Held, Taken, held_fields, held_schema_count, is_row};
+ghost use Rattle.utoipa_base.specs.Reading.{read};
+ghost use Rattle.utoipa_base.specs.Rows.{texts};
+ghost use Rattle.utoipa_base.specs.Tables.{table, has_extensions};
+ghost use Rattle.utoipa_base.specs.Values.{schema_count, docs_schema_count};
+
+use crate::empty::Empty;
+use crate::extensions::{Extensions, extensions_if_any, is_extension_name};
+use crate::readings::Readings;
+use crate::table::{
+    DefaultedField, OptionalField, OrNullField, RequiredField, RowField, RowFields,
+};
+use crate::token_tree::next_tree;
+use crate::tree::Tree;
+use crate::unread::Unread;
+use json::{Reader, Token};
+use std::alloc::Global;
+use std::collections::BTreeMap;
+
+/// What is read at one row of a member table, also from tokens. A trait of its own: a row that is read from a tree needs no more.
+pub trait OpenField: RowField {
+    /// The row's field, of the member that begins with the token `first` and goes on with those that the reader has. Fails as
+    /// [`Tree::from_tokens`] does.
+    fn from_tokens(
+        alloc: Global,
+        first: Token<'_>,
+        reader: &mut Reader<'_>,
+        depth: usize,
+        readings: &mut Readings,
+    ) -> Result<Self, Unread>
+        ensures read { IfOk result (λ v. (name : List ℕ) → FromTokens (λ t. field_of (Self.line name).mark (Self.line name).kind (Some t)) Self.doc v
+            depth (token_of first.entry ∷ reader.old) reader.new readings.old readings.new) }
+        ensures left { OnOk result (length reader.new ≤ length reader.old) };
+
+    /// The row's field where there is no member: none where one is asked for.
+    fn absent(alloc: Global) -> Option<Self>
+        ensures value { IfSome result (λ v. (name : List ℕ) → field_of (Self.line name).mark (Self.line name).kind None ≡ Some (Self.doc v)) }
+        ensures no_schema { IfSome result (λ v. schema_count (Self.doc v) ≡ 0) };
+
+    // The row has the name that it is given.
+    ghost is_named: { (name : List ℕ) → (Self.RowField.line name).name ≡ name };
+}
+
+#[tactic(auto, using(crate::proofs::Places::places))]
+impl<T: Tree> OpenField for RequiredField<T> {
+    ghost is_named = { λ _. refl };
+
+    fn from_tokens(
+        alloc: Global,
+        first: Token<'_>,
+        reader: &mut Reader<'_>,
+        depth: usize,
+        readings: &mut Readings,
+    ) -> Result<RequiredField<T>, Unread> {
+        let value = T::from_tokens(alloc, first, reader, depth, readings)?;
+        Ok(RequiredField(value))
+    }
+
+    fn absent(_alloc: Global) -> Option<RequiredField<T>> {
+        None
+    }
+}
+
+#[tactic(auto, using(crate::proofs::Places::places))]
+impl<T: Tree> OpenField for OptionalField<T> {
+    ghost is_named = { λ _. refl };
+
+    fn from_tokens(
+        alloc: Global,
+        first: Token<'_>,
+        reader: &mut Reader<'_>,
+        depth: usize,
+        readings: &mut Readings,
+    ) -> Result<OptionalField<T>, Unread> {
+        if let Token::Null = first {
+            return Ok(OptionalField(None));
+        }
+        let value = T::from_tokens(alloc, first, reader, depth, readings)?;
+        Ok(OptionalField(Some(value)))
+    }
+
+    fn absent(_alloc: Global) -> Option<OptionalField<T>> {
+        Some(OptionalField(None))
+    }
+}
+
+#[tactic(auto, using(crate::proofs::Places::places))]
+impl<T: Tree> OpenField for OrNullField<T> {
+    ghost is_named = { λ _. refl };
+
+    fn from_tokens(
+        alloc: Global,
+        first: Token<'_>,
+        reader: &mut Reader<'_>,
+        depth: usize,
+        readings: &mut Readings,
+    ) -> Result<OrNullField<T>, Unread> {
+        if let Token::Null = first {
+            return Ok(OrNullField(None));
+        }
+        let value = T::from_tokens(alloc, first, reader, depth, readings)?;
+        Ok(OrNullField(Some(value)))
+    }
+
+    fn absent(_alloc: Global) -> Option<OrNullField<T>> {
+        Some(OrNullField(None))
+    }
+}
+
+#[tactic(auto, using(crate::proofs::Places::places))]
+impl<T: Empty> OpenField for DefaultedField<T> {
+    ghost is_named = { λ _. refl };
+
+    fn from_tokens(
+        alloc: Global,
+        first: Token<'_>,
+        reader: &mut Reader<'_>,
+        depth: usize,
+        readings: &mut Readings,
+    ) -> Result<DefaultedField<T>, Unread> {
+        let value = T::from_tokens(alloc, first, reader, depth, readings)?;
+        Ok(DefaultedField(value))
+    }
+
+    fn absent(alloc: Global) -> Option<DefaultedField<T>> {
+        Some(DefaultedField(T::empty(alloc)))
+    }
+}
+
+/// What is read at the rows of a member table, also from tokens, in which the rows' members come in any order.
+pub trait OpenFields: RowFields {
+    /// The rows while members come: what has been read at each.
+    type Open: Drop;
+
+    ghost held: { Self.Open → Held };
+
+    /// The rows before the first member.
+    fn begin() -> Self::Open
+        ensures held { (names : List (List ℕ)) → length names ≡ Self.count → AreHeld (Self.rows names) (held result) no_members }
+        ensures no_schema { held_schema_count (held result) ≡ 0 };
+
+    /// Reads the member of this name, which begins with the token `first` and goes on with those that the reader has, where it is a
+    /// row's, and says whether it is; of another it reads nothing. Fails as [`Tree::from_tokens`] does, and where the row's member
+    /// has come before.
+    fn take(
+        so_far: &mut Self::Open,
+        alloc: Global,
+        names: &[&'static str],
+        name: &str,
+        first: Token<'_>,
+        reader: &mut Reader<'_>,
+        depth: usize,
+        readings: &mut Readings,
+    ) -> Result<bool, Unread>
+        requires { length names.now ≡ Self.count }
+        ensures taken { IfOk result (λ found. IsTrue found → Taken (Self.rows (texts names.now)) name.now (held so_far.old) (held so_far.new)
+            depth (token_of first.entry ∷ reader.old) reader.new readings.old readings.new) }
+        ensures other { IfOk result (λ found. found ≡ false → (is_row name.now (Self.rows (texts names.now)) ≡ false)
+            × (so_far.new ≡ so_far.old) × (reader.new ≡ reader.old) × (readings.new ≡ readings.old)) }
+        ensures left { OnOk result (length reader.new ≤ length reader.old) };
+
+    /// The rows' fields when the last member has come. Fails where the member of a row that asks for one has not come.
+    fn close(so_far: Self::Open, alloc: Global) -> Result<Self, Unread>
+        ensures fields { IfOk result (λ v. (names : List (List ℕ)) → length names ≡ Self.count → held_fields (Self.rows names) (held so_far) ≡ Some (Self.docs v)) }
+        ensures schemas { IfOk result (λ v. docs_schema_count (Self.docs v) ≤ held_schema_count (held so_far)) };
+}
+
+#[tactic(auto, using(crate::proofs::RowLists::by_row_list))]
+impl OpenFields for () {
+    type Open = ();
+
+    ghost held = { λ _. [] };
+
+    fn begin() {}
+
+    fn take(
+        _so_far: &mut (),
+        _alloc: Global,
+        _names: &[&'static str],
+        _name: &str,
+        _first: Token<'_>,
+        _reader: &mut Reader<'_>,
+        _depth: usize,
+        _readings: &mut Readings,
+    ) -> Result<bool, Unread> {
+        Ok(false)
+    }
+
+    fn close(_so_far: (), _alloc: Global) -> Result<(), Unread> {
+        Ok(())
+    }
+}
+
+#[tactic(auto, using(crate::proofs::RowLists::by_row_list))]
+impl<H: OpenField, R: OpenFields> OpenFields for (H, R) {
+    type Open = (Option<H>, R::Open);
+
+    ghost held = { λ v. option_map H.doc v.0 ∷ R.held v.1 };
+
+    fn begin() -> (Option<H>, R::Open) {
+        (None, R::begin())
+    }
+
+    fn take(
+        so_far: &mut (Option<H>, R::Open),
+        alloc: Global,
+        names: &[&'static str],
+        name: &str,
+        first: Token<'_>,
+        reader: &mut Reader<'_>,
+        depth: usize,
+        readings: &mut Readings,
+    ) -> Result<bool, Unread> {
+        if name != names[0] {
+            return R::take(
+                &mut so_far.1,
+                alloc,
+                &names[1..],
+                name,
+                first,
+                reader,
+                depth,
+                readings,
+            );
+        }
+        if so_far.0.is_some() {
+            return Err(Unread::AsTree);
+        }
+        let field = H::from_tokens(alloc, first, reader, depth, readings)?;
+        so_far.0 = Some(field);
+        Ok(true)
+    }
+
+    fn close(so_far: (Option<H>, R::Open), alloc: Global) -> Result<(H, R), Unread> {
+        let (held, others) = so_far;
+        let first = match held {
+            Some(field) => field,
+            None => H::absent(alloc).ok_or(Unread::AsTree)?,
+        };
+        let rest = R::close(others, alloc)?;
+        Ok((first, rest))
+    }
+}
+
+/// An object by the names of its table's rows, and its extensions, from the tokens of a text: it begins with the token `first` and goes
+/// on with those that the reader has. Members of other names are passed over.
+///
+/// Fails where the tokens are no such object, where the member of a row comes twice, where a number is a fraction, and where memory
+/// runs out.
+pub fn table_from_tokens<R: OpenFields>(
+    alloc: Global,
+    first: Token<'_>,
+    reader: &mut Reader<'_>,
+    depth: usize,
+    names: &[&'static str],
+    readings: &mut Readings,
+) -> Result<(R, Option<Extensions>), Unread>
+    requires { length names.now ≡ R.count }
+    ensures read { IfOk result (λ v. (n : ObjectType) → R.rows (texts names.now) ≡ table n → has_extensions n ≡ true
+        → FromTokens (read (named n)) (λ w. table_doc n (R.docs w.0) (option_map extensions_view w.1)) v
+        depth (token_of first.entry ∷ reader.old) reader.new readings.old readings.new) }
+    ensures left { OnOk result (length reader.new ≤ length reader.old) }
+{
+    let Token::BeginObject = first else {
+        return Err(Unread::AsTree);
+    };
+    if depth == 0 {
+        return Err(Unread::AsTree);
+    }
+    let mut so_far = R::begin();
+    let mut extensions = BTreeMap::new(alloc);
+    'members: while let Some(name) = reader.next_key()? {
+        let token = reader.next().ok_or(Unread::AsTree)?;
+        if is_extension_name(name) {
+            let key = String::from_str(alloc, name)?;
+            let value = next_tree(alloc, token, reader, depth - 1)?;
+            drop(extensions.insert(key, value)?);
+        } else {
+            let is_row = R::take(
+                &mut so_far,
+                alloc,
+                names,
+                name,
+                token,
+                reader,
+                depth - 1,
+                readings,
+            )?;
+            if !is_row {
+                drop(next_tree(alloc, token, reader, depth - 1)?);
+            }
+        }
+    }
+    let fields = R::close(so_far, alloc)?;
+    Ok((fields, extensions_if_any(extensions)))
+}
