@@ -5,8 +5,8 @@ use crate::builder::OpenApiBuilder;
 use serde_json::Value;
 use std::alloc::{AllocError, Global};
 use utoipa_base::{
-    Documented, Emit, Extensions, JsonSink, ReadFault, Readings, Tree, clone_table, emit_table,
-    from_fields, read_table, row_names, row_values,
+    Documented, Emit, Extensions, JsonSink, Place, ReadFault, Readings, Tree, clone_table,
+    emit_table, from_fields, read_table, row_names, row_values,
 };
 use utoipa_components::Components;
 use utoipa_leaf::external_docs::ExternalDocs;
@@ -137,5 +137,11 @@ impl Tree for OpenApi {
 
     fn try_clone(&self, alloc: Global) -> Result<OpenApi, AllocError> {
         document_rows!(clone_table!(OpenApi, self, alloc))
+    }
+}
+
+impl Place for OpenApi {
+    fn is_schema() -> bool {
+        false
     }
 }

@@ -6,7 +6,7 @@ ghost use Rattle.utoipa_base.specs.WellFormed.{has_fraction};
 use serde_json::Value;
 use std::alloc::{AllocError, Global};
 use utoipa_base::{
-    Documented, Emit, Extensions, JsonSink, ReadFault, Readings, Same, Tree, clone_table,
+    Documented, Emit, Extensions, JsonSink, Place, ReadFault, Readings, Same, Tree, clone_table,
     emit_table, from_fields, read_table, row_names, row_values, same_table, table_has_fraction,
 };
 
@@ -114,6 +114,12 @@ impl Tree for ExternalDocs {
 
     fn try_clone(&self, alloc: Global) -> Result<ExternalDocs, AllocError> {
         external_docs_rows!(clone_table!(ExternalDocs, self, alloc))
+    }
+}
+
+impl Place for ExternalDocs {
+    fn is_schema() -> bool {
+        false
     }
 }
 

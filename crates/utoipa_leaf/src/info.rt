@@ -5,8 +5,8 @@ ghost use Rattle.utoipa_base.specs.Kinds.{named, info_object, contact_object, li
 use serde_json::Value;
 use std::alloc::{AllocError, Global};
 use utoipa_base::{
-    Documented, Emit, Extensions, JsonSink, ReadFault, Readings, Tree, clone_table, emit_table,
-    from_fields, read_table, row_names, row_values,
+    Documented, Emit, Extensions, JsonSink, Place, ReadFault, Readings, Tree, clone_table,
+    emit_table, from_fields, read_table, row_names, row_values,
 };
 
 // The rows of an info object, in the order of the members' names: mark, member, field.
@@ -201,6 +201,12 @@ impl Tree for Contact {
     }
 }
 
+impl Place for Contact {
+    fn is_schema() -> bool {
+        false
+    }
+}
+
 impl Documented for License {
     ghost use Rattle.utoipa_leaf.specs.Info.{license_doc};
 
@@ -237,6 +243,12 @@ impl Tree for License {
     }
 }
 
+impl Place for License {
+    fn is_schema() -> bool {
+        false
+    }
+}
+
 impl Documented for Info {
     ghost use Rattle.utoipa_leaf.specs.Info.{info_doc};
 
@@ -266,6 +278,12 @@ impl Tree for Info {
 
     fn try_clone(&self, alloc: Global) -> Result<Info, AllocError> {
         info_rows!(clone_table!(Info, self, alloc))
+    }
+}
+
+impl Place for Info {
+    fn is_schema() -> bool {
+        false
     }
 }
 

@@ -5,7 +5,7 @@ ghost use Rattle.utoipa_base.specs.Kinds.{word_of, http_method, parameter_in, pa
 use serde_json::Value;
 use std::alloc::{AllocError, Global};
 use utoipa_base::{
-    Documented, Emit, JsonSink, ReadFault, Readings, Tree, Word, emit_word, read_word,
+    Documented, Emit, JsonSink, Place, ReadFault, Readings, Tree, Word, emit_word, read_word,
 };
 
 /// The HTTP method of an operation: the field of a Path Item Object (OpenAPI 3.1, section 4.8.9) under which it stands.
@@ -106,6 +106,12 @@ impl Tree for HttpMethod {
     }
 }
 
+impl Place for HttpMethod {
+    fn is_schema() -> bool {
+        false
+    }
+}
+
 /// The place of a parameter: the field `in` of a Parameter Object (OpenAPI 3.1, section 4.8.12).
 #[derive(Clone, Copy, Debug, Default, Drop, PartialEq, Eq)]
 pub enum ParameterIn {
@@ -188,6 +194,12 @@ impl Tree for ParameterIn {
 
     fn try_clone(&self, _alloc: Global) -> Result<ParameterIn, AllocError> {
         Ok(*self)
+    }
+}
+
+impl Place for ParameterIn {
+    fn is_schema() -> bool {
+        false
     }
 }
 
@@ -284,5 +296,11 @@ impl Tree for ParameterStyle {
 
     fn try_clone(&self, _alloc: Global) -> Result<ParameterStyle, AllocError> {
         Ok(*self)
+    }
+}
+
+impl Place for ParameterStyle {
+    fn is_schema() -> bool {
+        false
     }
 }

@@ -8,7 +8,7 @@ use serde_json::Value;
 use std::alloc::{AllocError, Global};
 use std::collections::BTreeMap;
 use utoipa_base::{
-    Documented, Emit, Extensions, JsonSink, ReadFault, Readings, Same, Tree, clone_table,
+    Documented, Emit, Extensions, JsonSink, Place, ReadFault, Readings, Same, Tree, clone_table,
     emit_table, from_fields, list_if_any, read_table, row_names, row_values, same_table,
     table_has_fraction,
 };
@@ -173,6 +173,12 @@ impl Tree for ServerVariable {
     }
 }
 
+impl Place for ServerVariable {
+    fn is_schema() -> bool {
+        false
+    }
+}
+
 impl Documented for Server {
     ghost use Rattle.utoipa_leaf.specs.Server.{server_doc};
 
@@ -206,6 +212,12 @@ impl Tree for Server {
 
     fn try_clone(&self, alloc: Global) -> Result<Server, AllocError> {
         server_rows!(clone_table!(Server, self, alloc))
+    }
+}
+
+impl Place for Server {
+    fn is_schema() -> bool {
+        false
     }
 }
 

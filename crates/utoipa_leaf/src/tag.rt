@@ -7,7 +7,7 @@ use crate::external_docs::ExternalDocs;
 use serde_json::Value;
 use std::alloc::{AllocError, Global};
 use utoipa_base::{
-    Documented, Emit, Extensions, JsonSink, ReadFault, Readings, Same, Tree, clone_table,
+    Documented, Emit, Extensions, JsonSink, Place, ReadFault, Readings, Same, Tree, clone_table,
     emit_table, from_fields, read_table, row_names, row_values, same_table, table_has_fraction,
 };
 
@@ -127,6 +127,12 @@ impl Tree for Tag {
 
     fn try_clone(&self, alloc: Global) -> Result<Tag, AllocError> {
         tag_rows!(clone_table!(Tag, self, alloc))
+    }
+}
+
+impl Place for Tag {
+    fn is_schema() -> bool {
+        false
     }
 }
 

@@ -10,7 +10,7 @@ ghost use Rattle.utoipa_leaf.specs.Version.{version_text, version_doc, version_o
 
 use serde_json::Value;
 use std::alloc::{AllocError, Global};
-use utoipa_base::{Documented, Emit, JsonSink, ReadFault, Readings, Tree};
+use utoipa_base::{Documented, Emit, JsonSink, Place, ReadFault, Readings, Tree};
 
 /// The version of the OpenAPI Specification that a document follows: the field `openapi` of an OpenAPI Object (OpenAPI
 /// 3.1, section 4.8.1).
@@ -149,5 +149,11 @@ impl Tree for OpenApiVersion {
 
     fn try_clone(&self, _alloc: Global) -> Result<OpenApiVersion, AllocError> {
         Ok(*self)
+    }
+}
+
+impl Place for OpenApiVersion {
+    fn is_schema() -> bool {
+        false
     }
 }

@@ -1,1 +1,2 @@
 pub mod ResponsesByCode
+pub mod LaterResponses

@@ -4,3 +4,4 @@ pub mod Response
 pub mod Responses
 pub mod Parameter
 pub mod Traits
+pub mod Described

@@ -2,6 +2,7 @@
 #![tactic(auto)]
 
 mod json_schema;
+pub mod laws;
 pub mod parameter;
 pub mod request_body;
 pub mod response;

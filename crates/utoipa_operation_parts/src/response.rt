@@ -10,7 +10,7 @@ ghost use Rattle.utoipa_base.specs.declared.refs.RefOr.{RefOr};
 ghost use Rattle.utoipa_media.specs.Builders.{Headers, content_place, content_reference, header_place, header_reference};
 ghost use Rattle.utoipa_operation_parts.specs.JsonSchema.{PutsJsonSchemaInOrder};
 ghost use Rattle.utoipa_operation_parts.specs.Response.{OrderedContents, Links};
-ghost use Rattle.utoipa_operation_parts.specs.Traits.{ByCode, responses_by_code, with_later};
+ghost use Rattle.utoipa_operation_parts.specs.Traits.{responses_by_code, with_later};
 ghost use Rattle.utoipa_operation_parts.specs.declared.response.Response.{Response};
 
 use crate::json_schema::{json_media_type, json_schema_content};
@@ -415,6 +415,12 @@ impl Tree for Responses {
     }
 }
 
+impl Place for Responses {
+    fn is_schema() -> bool {
+        false
+    }
+}
+
 /// Builds [`Responses`].
 #[derive(Debug, Drop)]
 pub struct ResponsesBuilder {
@@ -471,8 +477,8 @@ impl ResponsesBuilder {
         mut self,
         alloc: Global,
     ) -> Result<ResponsesBuilder, AllocError>
-        ensures { IfOk result (λ b. (held : ByStatus) × (answered : ByCode) × R.AreAnswered answered
-            × (responses_by_code held ≡ with_later (responses_by_code (built_responses self).responses) answered)
+        ensures { IfOk result (λ b. (held : ByStatus)
+            × (responses_by_code held ≡ with_later (responses_by_code (built_responses self).responses) R.answered)
             × (built_responses b ≡ record (built_responses self) { responses = held })) }
     {
         put_responses(&mut self.responses.responses, R::responses(alloc)?)?;

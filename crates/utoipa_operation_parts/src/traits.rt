@@ -1,12 +1,10 @@
 //! The traits by which a type says which parameters an operation takes and which responses it answers.
-ghost use Rattle.std.specs.Prelude.{◌≡◌, ℕ, List, [], Option, IfOk, OnOk, map};
+ghost use Rattle.std.specs.Prelude.{◌≡◌, ℕ, List, [], IfOk, OnOk, map};
 ghost use Rattle.std.specs.Fn.{FnReturns};
 ghost use Rattle.utoipa_base.specs.Docs.{Doc};
 ghost use Rattle.utoipa_base.specs.Fill.{put_each};
-ghost use Rattle.utoipa_leaf.specs.declared.path.ParameterIn.{ParameterIn};
 ghost use Rattle.utoipa_operation_parts.specs.Parameter.{parameter_doc};
-ghost use Rattle.utoipa_operation_parts.specs.Responses.{ByStatus};
-ghost use Rattle.utoipa_operation_parts.specs.Traits.{ByCode, responses_by_code, response_place_doc, AreOfBoth};
+ghost use Rattle.utoipa_operation_parts.specs.Traits.{ArePlaced, ByCode, ByPlace, responses_by_code, response_place_doc, with_later};
 
 use crate::parameter::Parameter;
 use crate::response::Response;
@@ -17,8 +15,8 @@ use utoipa_leaf::path::ParameterIn;
 
 /// A type whose fields are parameters of an operation.
 pub trait IntoParams {
-    // What the parameters are like, by the places that the provider may answer.
-    ghost AreDescribed: { (MayBeIn : Option ParameterIn → Type 0) → List Doc → Type 0 };
+    // The parameters, each by the place that the provider answers of it.
+    ghost described: { ByPlace };
 
     /// The parameters. The provider answers where a parameter stands of which the type does not say it.
     ///
@@ -28,7 +26,7 @@ pub trait IntoParams {
         parameter_in_provider: F,
     ) -> Result<Vec<Parameter>, AllocError>
         requires { F.IsAlwaysCallable parameter_in_provider }
-        ensures { IfOk result (λ made. AreDescribed (λ place. FnReturns F.Fn parameter_in_provider tt place) (map parameter_doc made.items)) };
+        ensures { IfOk result (λ made. ArePlaced (λ place. FnReturns F.Fn parameter_in_provider tt place) described (map parameter_doc made.items)) };
 }
 
 /// A type whose values are answered as one response, which has a name under which it stands among the components of a document.
@@ -36,27 +34,27 @@ pub trait ToResponse<'r> {
     // The name.
     ghost named: { List ℕ };
 
-    // What the response, or the reference to one, is like.
-    ghost IsDescribed: { Doc → Type 0 };
+    // The response, or the reference to one.
+    ghost described: { Doc };
 
     /// The response, or a reference to one, with its name. Fails where memory runs out.
     fn response(alloc: Global) -> Result<(&'r str, RefOr<Response>), AllocError>
-        ensures { IfOk result (λ made. (made.0.now ≡ named) × IsDescribed (response_place_doc made.1)) };
+        ensures { IfOk result (λ made. (made.0.now ≡ named) × (response_place_doc made.1 ≡ described)) };
 }
 
 /// A type whose values are answered as one of several responses.
 pub trait IntoResponses {
-    // What the responses, by their status codes, are like.
-    ghost AreAnswered: { ByCode → Type 0 };
+    // The responses, or references to such, by their status codes.
+    ghost answered: { ByCode };
 
     /// The responses, or references to such, by their status codes. Fails where memory runs out.
     fn responses(alloc: Global) -> Result<BTreeMap<String, RefOr<Response>>, AllocError>
-        ensures { IfOk result (λ made. AreAnswered (responses_by_code made)) };
+        ensures { IfOk result (λ made. responses_by_code made ≡ answered) };
 }
 
 /// No response.
 impl IntoResponses for () {
-    ghost AreAnswered = { λ responses. responses ≡ [] };
+    ghost answered = { [] };
 
     fn responses(alloc: Global) -> Result<BTreeMap<String, RefOr<Response>>, AllocError> {
         Ok(BTreeMap::new(alloc))
@@ -65,7 +63,7 @@ impl IntoResponses for () {
 
 /// The responses of what is answered where all is well and of what is answered where it is not, which win where both have a code.
 impl<T: IntoResponses, E: IntoResponses> IntoResponses for Result<T, E> {
-    ghost AreAnswered = { λ responses. AreOfBoth T.AreAnswered E.AreAnswered responses };
+    ghost answered = { with_later T.answered E.answered };
 
     fn responses(alloc: Global) -> Result<BTreeMap<String, RefOr<Response>>, AllocError> {
         let mut responses = T::responses(alloc)?;

@@ -64,6 +64,12 @@ impl Tree for Object {
     }
 }
 
+impl Place for Object {
+    fn is_schema() -> bool {
+        false
+    }
+}
+
 /// A schema with `items`, by its member table alone.
 impl Tree for Array {
     ghost is_of_kind = { array_of_kind };
@@ -78,6 +84,12 @@ impl Tree for Array {
 
     fn try_clone(&self, alloc: Global) -> Result<Array, AllocError> {
         copy::clone_array(alloc, self)
+    }
+}
+
+impl Place for Array {
+    fn is_schema() -> bool {
+        false
     }
 }
 
@@ -98,6 +110,12 @@ impl Tree for OneOf {
     }
 }
 
+impl Place for OneOf {
+    fn is_schema() -> bool {
+        false
+    }
+}
+
 /// A schema with `allOf`, by its member table alone.
 impl Tree for AllOf {
     ghost is_of_kind = { all_of_of_kind };
@@ -112,6 +130,12 @@ impl Tree for AllOf {
 
     fn try_clone(&self, alloc: Global) -> Result<AllOf, AllocError> {
         copy::clone_all_of(alloc, self)
+    }
+}
+
+impl Place for AllOf {
+    fn is_schema() -> bool {
+        false
     }
 }
 
@@ -132,6 +156,12 @@ impl Tree for AnyOf {
     }
 }
 
+impl Place for AnyOf {
+    fn is_schema() -> bool {
+        false
+    }
+}
+
 /// The items of an array: a reference, a schema, or `false`.
 impl Tree for ArrayItems {
     ghost is_of_kind = { array_items_of_kind };
@@ -149,6 +179,12 @@ impl Tree for ArrayItems {
     }
 }
 
+impl Place for ArrayItems {
+    fn is_schema() -> bool {
+        false
+    }
+}
+
 /// What the properties are that an object does not list: a reference, a schema, true or false.
 impl Tree for AdditionalProperties<Schema> {
     ghost is_of_kind = { additional_properties_of_kind };
@@ -163,6 +199,12 @@ impl Tree for AdditionalProperties<Schema> {
 
     fn try_clone(&self, alloc: Global) -> Result<AdditionalProperties<Schema>, AllocError> {
         copy::clone_additional(alloc, self)
+    }
+}
+
+impl Place for AdditionalProperties<Schema> {
+    fn is_schema() -> bool {
+        false
     }
 }
 

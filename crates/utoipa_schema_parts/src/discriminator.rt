@@ -7,8 +7,8 @@ use serde_json::Value;
 use std::alloc::{AllocError, Global};
 use std::collections::BTreeMap;
 use utoipa_base::{
-    Documented, Emit, Extensions, JsonSink, ReadFault, Readings, Tree, clone_table, emit_table,
-    from_fields, read_table, row_names, row_values,
+    Documented, Emit, Extensions, JsonSink, Place, ReadFault, Readings, Tree, clone_table,
+    emit_table, from_fields, read_table, row_names, row_values,
 };
 
 // The rows of a discriminator, in the order of the members' names: mark, member, field.
@@ -105,5 +105,11 @@ impl Tree for Discriminator {
 
     fn try_clone(&self, alloc: Global) -> Result<Discriminator, AllocError> {
         discriminator_rows!(clone_table!(Discriminator, self, alloc))
+    }
+}
+
+impl Place for Discriminator {
+    fn is_schema() -> bool {
+        false
     }
 }

@@ -10,7 +10,7 @@ ghost use Rattle.utoipa_schema_parts.specs.Format.{schema_format_doc, schema_for
 use serde_json::Value;
 use std::alloc::{AllocError, Global};
 use utoipa_base::{
-    Documented, Emit, JsonSink, ReadFault, Readings, Tree, Word, emit_word, read_word,
+    Documented, Emit, JsonSink, Place, ReadFault, Readings, Tree, Word, emit_word, read_word,
 };
 
 /// A format that the model knows: a word of the keyword `format` (OpenAPI 3.1, section 4.4; JSON Schema 2020-12,
@@ -162,6 +162,12 @@ impl Tree for KnownFormat {
     }
 }
 
+impl Place for KnownFormat {
+    fn is_schema() -> bool {
+        false
+    }
+}
+
 /// The format of a schema's values: the keyword `format` (OpenAPI 3.1, section 4.4; JSON Schema 2020-12, Validation,
 /// section 7), which may have any text.
 #[derive(Debug, Drop, PartialEq, Eq)]
@@ -224,5 +230,11 @@ impl Tree for SchemaFormat {
             SchemaFormat::KnownFormat(known) => Ok(SchemaFormat::KnownFormat(*known)),
             SchemaFormat::Custom(name) => Ok(SchemaFormat::Custom(name.try_clone(alloc)?)),
         }
+    }
+}
+
+impl Place for SchemaFormat {
+    fn is_schema() -> bool {
+        false
     }
 }

@@ -13,8 +13,8 @@ ghost use Rattle.utoipa_schema_parts.specs.Types.{TypeWords, schema_type_doc, sc
 use serde_json::Value;
 use std::alloc::{AllocError, Global};
 use utoipa_base::{
-    Documented, Emit, Empty, JsonSink, Omit, ReadFault, Readings, Tree, Word, emit_word, list_from,
-    read_word,
+    Documented, Emit, Empty, JsonSink, Omit, Place, ReadFault, Readings, Tree, Word, emit_word,
+    list_from, read_word,
 };
 
 /// A type of JSON values: a word of the keyword `type` (JSON Schema 2020-12, Validation, section 6.1.1).
@@ -107,6 +107,12 @@ impl Tree for TypeWord {
 
     fn try_clone(&self, _alloc: Global) -> Result<TypeWord, AllocError> {
         Ok(*self)
+    }
+}
+
+impl Place for TypeWord {
+    fn is_schema() -> bool {
+        false
     }
 }
 
@@ -246,6 +252,12 @@ impl Tree for SchemaType {
             SchemaType::Array(words) => Ok(SchemaType::Array(words.try_clone(alloc)?)),
             SchemaType::AnyValue => Ok(SchemaType::AnyValue),
         }
+    }
+}
+
+impl Place for SchemaType {
+    fn is_schema() -> bool {
+        false
     }
 }
 

@@ -6,7 +6,7 @@ ghost use Rattle.utoipa_schema_parts.specs.contracts.xml.XmlPartialEq.TheImpl as
 use serde_json::Value;
 use std::alloc::{AllocError, Global};
 use utoipa_base::{
-    Documented, Emit, JsonSink, ReadFault, Readings, Tree, clone_table_alone, emit_table,
+    Documented, Emit, JsonSink, Place, ReadFault, Readings, Tree, clone_table_alone, emit_table,
     from_fields_alone, read_table_alone, row_names, row_values,
 };
 
@@ -96,6 +96,12 @@ impl Tree for Xml {
 
     fn try_clone(&self, alloc: Global) -> Result<Xml, AllocError> {
         xml_rows!(clone_table_alone!(Xml, self, alloc))
+    }
+}
+
+impl Place for Xml {
+    fn is_schema() -> bool {
+        false
     }
 }
 

@@ -12,8 +12,8 @@ use crate::security::scheme_type::read_type;
 use serde_json::Value;
 use std::alloc::{AllocError, Global};
 use utoipa_base::{
-    Deprecated, Documented, Emit, Extensions, JsonSink, ReadFault, Readings, Tree, clone_table,
-    emit_table, from_fields, read_table, row_names,
+    Deprecated, Documented, Emit, Extensions, JsonSink, Place, ReadFault, Readings, Tree,
+    clone_table, emit_table, from_fields, read_table, row_names,
 };
 
 // The rows of an API key, in the order of the members' names: mark, member, field. Others may stand before
@@ -111,6 +111,12 @@ impl Tree for ApiKeyValue {
 
     fn try_clone(&self, alloc: Global) -> Result<ApiKeyValue, AllocError> {
         api_key_rows!(clone_table!(ApiKeyValue, self, alloc) [])
+    }
+}
+
+impl Place for ApiKeyValue {
+    fn is_schema() -> bool {
+        false
     }
 }
 
@@ -217,5 +223,11 @@ impl Tree for ApiKey {
             ApiKey::Query(value) => Ok(ApiKey::Query(value.try_clone(alloc)?)),
             ApiKey::Cookie(value) => Ok(ApiKey::Cookie(value.try_clone(alloc)?)),
         }
+    }
+}
+
+impl Place for ApiKey {
+    fn is_schema() -> bool {
+        false
     }
 }

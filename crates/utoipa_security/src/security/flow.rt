@@ -7,8 +7,8 @@ use crate::security::scopes::Scopes;
 use serde_json::Value;
 use std::alloc::{AllocError, Global};
 use utoipa_base::{
-    Documented, Emit, Extensions, JsonSink, ReadFault, Readings, Tree, emit_table, read_table,
-    row_names,
+    Documented, Emit, Extensions, JsonSink, Place, ReadFault, Readings, Tree, emit_table,
+    read_table, row_names,
 };
 
 // The rows of the implicit flow, in the order of the members' names: mark, member, field.
@@ -107,6 +107,12 @@ impl Tree for Implicit {
     }
 }
 
+impl Place for Implicit {
+    fn is_schema() -> bool {
+        false
+    }
+}
+
 // The rows of the flow by password, in the order of the members' names: mark, member, field.
 macro_rules! password_rows {
     ($lines:ident!($($arguments:tt)*)) => {
@@ -193,6 +199,12 @@ impl Tree for Password {
 
     fn try_clone(&self, alloc: Global) -> Result<Password, AllocError> {
         password_rows!(clone_table!(Password, self, alloc))
+    }
+}
+
+impl Place for Password {
+    fn is_schema() -> bool {
+        false
     }
 }
 
@@ -286,6 +298,12 @@ impl Tree for ClientCredentials {
 
     fn try_clone(&self, alloc: Global) -> Result<ClientCredentials, AllocError> {
         client_credentials_rows!(clone_table!(ClientCredentials, self, alloc))
+    }
+}
+
+impl Place for ClientCredentials {
+    fn is_schema() -> bool {
+        false
     }
 }
 
@@ -385,6 +403,12 @@ impl Tree for AuthorizationCode {
 
     fn try_clone(&self, alloc: Global) -> Result<AuthorizationCode, AllocError> {
         authorization_code_rows!(clone_table!(AuthorizationCode, self, alloc))
+    }
+}
+
+impl Place for AuthorizationCode {
+    fn is_schema() -> bool {
+        false
     }
 }
 
@@ -488,5 +512,11 @@ impl Tree for DeviceAuthorization {
 
     fn try_clone(&self, alloc: Global) -> Result<DeviceAuthorization, AllocError> {
         device_authorization_rows!(clone_table!(DeviceAuthorization, self, alloc))
+    }
+}
+
+impl Place for DeviceAuthorization {
+    fn is_schema() -> bool {
+        false
     }
 }

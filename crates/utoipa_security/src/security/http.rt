@@ -9,7 +9,7 @@ use crate::security::row_lists::row_values;
 use serde_json::Value;
 use std::alloc::{AllocError, Global};
 use utoipa_base::{
-    Deprecated, Documented, Emit, Extensions, JsonSink, ReadFault, Readings, Tree, Word,
+    Deprecated, Documented, Emit, Extensions, JsonSink, Place, ReadFault, Readings, Tree, Word,
     clone_table, emit_table, emit_word, from_fields, read_table, read_word, row_names,
 };
 
@@ -119,6 +119,12 @@ impl Tree for HttpAuthScheme {
     }
 }
 
+impl Place for HttpAuthScheme {
+    fn is_schema() -> bool {
+        false
+    }
+}
+
 // The rows of a scheme of HTTP authentication, in the order of the members' names: mark, member, field. Others may
 // stand last.
 macro_rules! http_rows {
@@ -211,6 +217,12 @@ impl Tree for Http {
 
     fn try_clone(&self, alloc: Global) -> Result<Http, AllocError> {
         http_rows!(clone_table!(Http, self, alloc))
+    }
+}
+
+impl Place for Http {
+    fn is_schema() -> bool {
+        false
     }
 }
 

@@ -12,8 +12,8 @@ use serde_json::Value;
 use std::alloc::{AllocError, Global};
 use std::collections::BTreeMap;
 use utoipa_base::{
-    Deprecated, Documented, Emit, Extensions, JsonSink, ReadFault, Readings, Tree, emit_table,
-    read_table, row_names,
+    Deprecated, Documented, Emit, Extensions, JsonSink, Place, ReadFault, Readings, Tree,
+    emit_table, read_table, row_names,
 };
 
 // The rows of a scheme by OAuth 2, in the order of the members' names: mark, member, field. Others may stand last.
@@ -145,5 +145,11 @@ impl Tree for OAuth2 {
 
     fn try_clone(&self, alloc: Global) -> Result<OAuth2, AllocError> {
         oauth2_rows!(clone_table!(OAuth2, self, alloc))
+    }
+}
+
+impl Place for OAuth2 {
+    fn is_schema() -> bool {
+        false
     }
 }

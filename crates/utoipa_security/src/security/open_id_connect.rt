@@ -9,8 +9,8 @@ use crate::security::row_lists::row_values;
 use serde_json::Value;
 use std::alloc::{AllocError, Global};
 use utoipa_base::{
-    Deprecated, Documented, Emit, Extensions, JsonSink, ReadFault, Readings, Tree, clone_table,
-    emit_table, from_fields, read_table, row_names,
+    Deprecated, Documented, Emit, Extensions, JsonSink, Place, ReadFault, Readings, Tree,
+    clone_table, emit_table, from_fields, read_table, row_names,
 };
 
 // The rows of a scheme by OpenID Connect, in the order of the members' names: mark, member, field. Others may stand last.
@@ -117,5 +117,11 @@ impl Tree for OpenIdConnect {
 
     fn try_clone(&self, alloc: Global) -> Result<OpenIdConnect, AllocError> {
         open_id_connect_rows!(clone_table!(OpenIdConnect, self, alloc))
+    }
+}
+
+impl Place for OpenIdConnect {
+    fn is_schema() -> bool {
+        false
     }
 }

@@ -8,7 +8,7 @@ ghost use Rattle.utoipa_base.specs.Tables.{security_requirement};
 use serde_json::Value;
 use std::alloc::{AllocError, Global};
 use std::collections::BTreeMap;
-use utoipa_base::{Documented, Emit, JsonSink, ReadFault, Readings, Same, Tree, list_from};
+use utoipa_base::{Documented, Emit, JsonSink, Place, ReadFault, Readings, Same, Tree, list_from};
 
 /// A Security Requirement Object (OpenAPI 3.1, section 4.8.30): names of security schemes, each with the scopes or roles
 /// that it takes. All of the schemes have to be met; where there is none, security is optional.
@@ -107,6 +107,12 @@ impl Tree for SecurityRequirement {
         Ok(SecurityRequirement {
             value: self.value.try_clone(alloc)?,
         })
+    }
+}
+
+impl Place for SecurityRequirement {
+    fn is_schema() -> bool {
+        false
     }
 }
 

@@ -10,7 +10,7 @@ use std::alloc::{AllocError, Global};
 use std::collections::BTreeMap;
 use utoipa_base::table::RowField;
 use utoipa_base::{
-    Documented, Emit, EmitRow, JsonSink, PendingExtensions, ReadFault, Readings, Tree,
+    Documented, Emit, EmitRow, JsonSink, PendingExtensions, Place, ReadFault, Readings, Tree,
     emit_required, emit_table, from_fields_alone, read_table_alone, row_names, row_required,
     row_values,
 };
@@ -107,6 +107,12 @@ impl Tree for Scopes {
 
     fn try_clone(&self, alloc: Global) -> Result<Scopes, AllocError> {
         clone_scopes(alloc, self)
+    }
+}
+
+impl Place for Scopes {
+    fn is_schema() -> bool {
+        false
     }
 }
 
