@@ -19,8 +19,7 @@ use Rattle.utoipa_merging.specs.Merged.{IsInKeyOrder, IsMerged, IsOpenApi}
 use Rattle.utoipa_merging.specs.Nested.{IsNested}
 use Rattle.utoipa_merging.specs.Slots.{items_in, list_in}
 use Rattle.utoipa_merging.specs.Sorted.{IsSorted, AreItemsSorted}
-use Rattle.utoipa_merging.proofs.PlainMerged.{merged_plain, nested_plain}
-use Rattle.utoipa_merging.proofs.PlainSlots.{field_plain}
+use Rattle.utoipa_merging.proofs.PlainMerged.{field_plain, merged_plain, nested_plain}
 use Rattle.utoipa_merging.proofs.ReadInOrder.{read_in_order}
 use Rattle.utoipa.specs.Merging.{lists_have_fraction, any_list_has_fraction}
 use Rattle.utoipa.specs.declared.merging.MergeFault.{MergeFault}

@@ -3,4 +3,5 @@ pub mod Slots
 pub mod Merged
 pub mod Sorted
 pub mod Nested
+pub mod Texts
 pub mod Example
