@@ -120,7 +120,7 @@ impl ComponentsBuilder {
         alloc: Global,
     ) -> Result<ComponentsBuilder, AllocError>
         ensures { IfOk result (λ b. (name : String Global) × (response : RefOr Response) × (held : PlacesByName Response)
-            × (string_bytes name ≡ T.named) × T.IsDescribed (response_place_doc response)
+            × (string_bytes name ≡ T.named) × (response_place_doc response ≡ T.described)
             × (held.entries ≡ insert_entry string_cmp (built_components self).responses.entries name response)
             × (built_components b ≡ record (built_components self) { responses = held })) }
     {

@@ -13,7 +13,7 @@ use serde_json::Value;
 use std::alloc::{AllocError, Global};
 use std::collections::BTreeMap;
 use utoipa_base::{
-    Documented, Emit, Extensions, JsonSink, ReadFault, Readings, RefOr, Tree, clone_table,
+    Documented, Emit, Extensions, JsonSink, Place, ReadFault, Readings, RefOr, Tree, clone_table,
     emit_table, from_fields, put_all, put_each, read_table, row_names, row_values,
 };
 use utoipa_leaf::example::Example;
@@ -168,5 +168,11 @@ impl Tree for Components {
 
     fn try_clone(&self, alloc: Global) -> Result<Components, AllocError> {
         components_rows!(clone_table!(Components, self, alloc))
+    }
+}
+
+impl Place for Components {
+    fn is_schema() -> bool {
+        false
     }
 }

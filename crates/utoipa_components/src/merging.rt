@@ -15,7 +15,7 @@ use utoipa_leaf::example::Example;
 use utoipa_media::content::Content;
 use utoipa_media::header::Header;
 use utoipa_media::link::Link;
-use utoipa_merging_parts::Filling;
+use utoipa_merging_parts::{Filling, filled, taken_back};
 use utoipa_operation_parts::{Parameter, RequestBody, Response};
 use utoipa_path::{Callback, PathItem};
 use utoipa_schema::Schema;
@@ -95,9 +95,9 @@ fn filled_with(
     ensures err { OnErr result.1 (components_doc result.0 ≡ components_doc standing) }
     ensures ordered { AreComponentsInOrder (Some standing) → AreComponentsInOrder (Some result.0) }
 {
-    let (mut maps, extensions) = maps_of(standing);
-    let filled = maps.fill(alloc, maps_of(later).0);
-    (components_of(maps, extensions), filled)
+    let (maps, extensions) = maps_of(standing);
+    let (maps, names) = filled(maps, alloc, maps_of(later).0);
+    (components_of(maps, extensions), names)
 }
 
 /// Takes back what was taken. Takes no memory.
@@ -119,9 +119,8 @@ pub fn take_back_components(own: &mut Option<Components>, filled: FilledComponen
 fn without_filled(standing: Components, filled: FilledMaps) -> Components
     ensures { (before : _) → EntriesGoBack filled standing before → components_doc result ≡ components_doc before }
 {
-    let (mut maps, extensions) = maps_of(standing);
-    maps.take_back(filled);
-    components_of(maps, extensions)
+    let (maps, extensions) = maps_of(standing);
+    components_of(taken_back(maps, filled), extensions)
 }
 
 /// The components of all documents in one, where any has some: under each name the entry of the first that has one, and the extensions

@@ -78,3 +78,24 @@ impl<T: Tree, R: Filling> Filling for (BTreeMap<String, T>, R) {
         self.1.take_back(others);
     }
 }
+
+/// The maps, filled from later ones, and what takes that back; as they were where memory ran out, and then the later maps are given up.
+pub fn filled<M: Filling>(maps: M, alloc: Global, later: M) -> (M, Result<M::Filled, AllocError>)
+    ensures filled { OnOk result.1 (AreFilled (M.docs maps) (M.docs later) (M.docs result.0)) }
+    ensures noted { IfOk result.1 (λ filled. M.goes_back filled result.0 maps) }
+    ensures err { OnErr result.1 (M.docs result.0 ≡ M.docs maps) }
+    ensures ordered { AllByRecursion IsInOrder (M.docs maps) → AllByRecursion IsInOrder (M.docs result.0) }
+{
+    let mut maps = maps;
+    let filled = maps.fill(alloc, later);
+    (maps, filled)
+}
+
+/// The maps without what was put into them. Takes no memory.
+pub fn taken_back<M: Filling>(maps: M, filled: M::Filled) -> M
+    ensures { (before : M) → M.goes_back filled maps before → M.docs result ≡ M.docs before }
+{
+    let mut maps = maps;
+    maps.take_back(filled);
+    maps
+}

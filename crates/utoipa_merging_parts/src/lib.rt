@@ -6,5 +6,5 @@ pub mod filling;
 pub mod lists;
 pub mod maps;
 
-pub use filling::Filling;
+pub use filling::{Filling, filled, taken_back};
 pub use lists::{join_lists, make_room, take_entries};
