@@ -39,6 +39,7 @@
 #![tactic(auto)]
 
 mod again;
+mod brackets;
 mod documents;
 mod extended;
 mod extensions;

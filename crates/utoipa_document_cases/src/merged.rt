@@ -9,28 +9,43 @@ use utoipa_leaf::path::HttpMethod;
 use utoipa_path::{Operation, PathItem};
 use utoipa_paths::{Paths, merge_paths};
 
-/// A type whose values take of another what they lack.
-pub trait Merging: Tree {
-    /// Takes of the other what is missing here. Fails where the type's own merging does, and then nothing has changed.
-    fn take_missing(&mut self, alloc: Global, other: Self) -> Result<(), MergeFault>;
+/// A type whose values take something of another type.
+pub trait Takes<T: Drop>: Tree {
+    /// Takes the other. Fails where the type's own call does, and then nothing has changed.
+    fn take(&mut self, alloc: Global, other: T) -> Result<(), MergeFault>;
 }
 
-impl Merging for PathItem {
-    fn take_missing(&mut self, alloc: Global, other: PathItem) -> Result<(), MergeFault> {
+impl Takes<PathItem> for PathItem {
+    fn take(&mut self, alloc: Global, other: PathItem) -> Result<(), MergeFault> {
         self.merge_operations(alloc, other)
             .map_err(MergeFault::from)
     }
 }
 
-impl Merging for Paths {
-    fn take_missing(&mut self, alloc: Global, other: Paths) -> Result<(), MergeFault> {
+impl Takes<Paths> for Paths {
+    fn take(&mut self, alloc: Global, other: Paths) -> Result<(), MergeFault> {
         self.merge(alloc, other).map_err(MergeFault::from)
     }
 }
 
-impl Merging for OpenApi {
-    fn take_missing(&mut self, alloc: Global, other: OpenApi) -> Result<(), MergeFault> {
+impl Takes<OpenApi> for OpenApi {
+    fn take(&mut self, alloc: Global, other: OpenApi) -> Result<(), MergeFault> {
         self.merge(alloc, other)
+    }
+}
+
+/// An operation, and where it is added.
+#[derive(Drop)]
+pub struct Addition<'a> {
+    path: &'a str,
+    methods: Vec<HttpMethod>,
+    operation: Operation,
+}
+
+impl<'a> Takes<Addition<'a>> for Paths {
+    fn take(&mut self, alloc: Global, other: Addition<'a>) -> Result<(), MergeFault> {
+        self.add_path_operation(alloc, other.path, other.methods, other.operation)
+            .map_err(MergeFault::from)
     }
 }
 
@@ -52,24 +67,34 @@ fn of_type(alloc: Global, name: &str, first: &Value, second: &Value) -> Result<S
     }
 }
 
-fn merged<T: Merging>(alloc: Global, first: &Value, second: &Value) -> Result<String, AllocError> {
-    match (T::from_value(alloc, first), T::from_value(alloc, second)) {
-        (Ok(first), Ok(second)) => both_merged(alloc, first, second),
-        (Err(fault), _) | (_, Err(fault)) => refused(alloc, &fault),
+fn merged<T: Takes<T>>(alloc: Global, first: &Value, second: &Value) -> Result<String, AllocError> {
+    match read_both::<T>(alloc, first, second) {
+        Ok((first, second)) => taken(alloc, first, second),
+        Err(fault) => refused(alloc, &fault),
     }
 }
 
-fn both_merged<T: Merging>(alloc: Global, first: T, second: T) -> Result<String, AllocError> {
+/// The values of a type that two trees are.
+pub fn read_both<T: Tree>(
+    alloc: Global,
+    first: &Value,
+    second: &Value,
+) -> Result<(T, T), ReadFault> {
+    let first = T::from_value(alloc, first)?;
+    Ok((first, T::from_value(alloc, second)?))
+}
+
+fn taken<T: Takes<O>, O: Drop>(alloc: Global, first: T, second: O) -> Result<String, AllocError> {
     let before = printed(alloc, &first)?;
     let mut merged = first;
-    let outcome = merged.take_missing(alloc, second);
+    let outcome = merged.take(alloc, second);
     told(alloc, outcome, before.as_str(), printed(alloc, &merged)?)
 }
 
 /// What the paths of a list are written as, once they are merged all at once.
 pub fn merged_list(alloc: Global, text: &str) -> Result<String, AllocError> {
     match read_text::<Vec<Paths>>(alloc, text) {
-        Ok(all) => printed(alloc, &merge_paths(alloc, all)?),
+        Ok(all) => shown(alloc, merge_paths(alloc, all).map_err(MergeFault::from)),
         Err(fault) => refused(alloc, &fault),
     }
 }
@@ -83,21 +108,28 @@ pub fn with_operation(alloc: Global, path: &str, texts: &str) -> Result<String, 
     let Some((methods, operation)) = texts.split_once('\t') else {
         return String::from_str(alloc, "no three texts");
     };
-    match read_all(alloc, paths, methods, operation) {
-        Ok((paths, methods, operation)) => added(alloc, path, paths, methods, operation),
+    match read_three::<Paths, Vec<HttpMethod>, Operation>(alloc, paths, methods, operation) {
+        Ok((paths, methods, operation)) => {
+            let addition = Addition {
+                path,
+                methods,
+                operation,
+            };
+            taken(alloc, paths, addition)
+        }
         Err(fault) => refused(alloc, &fault),
     }
 }
 
-fn read_all(
+fn read_three<A: Tree, B: Tree, C: Tree>(
     alloc: Global,
-    paths: &str,
-    methods: &str,
-    operation: &str,
-) -> Result<(Paths, Vec<HttpMethod>, Operation), ReadFault> {
-    let paths = read_text::<Paths>(alloc, paths)?;
-    let methods = read_text::<Vec<HttpMethod>>(alloc, methods)?;
-    Ok((paths, methods, read_text::<Operation>(alloc, operation)?))
+    first: &str,
+    second: &str,
+    third: &str,
+) -> Result<(A, B, C), ReadFault> {
+    let first = read_text::<A>(alloc, first)?;
+    let second = read_text::<B>(alloc, second)?;
+    Ok((first, second, read_text::<C>(alloc, third)?))
 }
 
 /// The value that a text reads as.
@@ -109,22 +141,28 @@ pub fn read_text<T: Tree>(alloc: Global, text: &str) -> Result<T, ReadFault> {
     }
 }
 
-fn added(
-    alloc: Global,
-    path: &str,
-    paths: Paths,
-    methods: Vec<HttpMethod>,
-    operation: Operation,
-) -> Result<String, AllocError> {
-    let before = printed(alloc, &paths)?;
-    let mut changed = paths;
-    let outcome = changed.add_path_operation(alloc, path, methods, operation);
-    let outcome = outcome.map_err(MergeFault::from);
-    told(alloc, outcome, before.as_str(), printed(alloc, &changed)?)
+/// What a value that was made is written as, or why it was not.
+pub fn shown<T: Tree>(alloc: Global, outcome: Result<T, MergeFault>) -> Result<String, AllocError> {
+    match outcome {
+        Ok(value) => printed(alloc, &value),
+        Err(fault) => String::from_str(alloc, refusal_of(&fault)),
+    }
 }
 
-/// Why documents are not merged, by a word for the fault.
-pub fn refusal_of(fault: &MergeFault) -> &'static str {
+/// The same, and `none` where none was made.
+pub fn shown_if_any<T: Tree>(
+    alloc: Global,
+    outcome: Result<Option<T>, MergeFault>,
+) -> Result<String, AllocError> {
+    match outcome {
+        Ok(Some(value)) => printed(alloc, &value),
+        Ok(None) => String::from_str(alloc, "none"),
+        Err(fault) => String::from_str(alloc, refusal_of(&fault)),
+    }
+}
+
+// Why documents are not merged, by a word for the fault.
+fn refusal_of(fault: &MergeFault) -> &'static str {
     match fault {
         MergeFault::Memory => "refused: memory",
         MergeFault::Fraction => "refused: fraction",

@@ -1,7 +1,8 @@
 //! Operations that nest deeper than a text can nest them: each holds a callback, which holds a path item, which holds the next.
 
 use std::alloc::{AllocError, Global};
-use utoipa_base::{RefOr, Tree};
+use std::collections::BTreeMap;
+use utoipa_base::{RefOr, Tree, beside};
 use utoipa_case_kit::printed;
 use utoipa_leaf::path::HttpMethod;
 use utoipa_path::{Callback, Operation, PathItem};
@@ -36,12 +37,28 @@ fn nested(alloc: Global, depth: u64) -> Result<Operation, AllocError> {
 
 // An operation with one callback `c`, of one expression `e`, which is got by another operation.
 fn around(alloc: Global, operation: Operation) -> Result<Operation, AllocError> {
+    let (operation, expression) = beside(operation, String::from_str(alloc, "e"))?;
+    let (operation, name) = beside(operation, String::from_str(alloc, "c"))?;
     let item = PathItem::new(alloc, HttpMethod::Get, operation);
-    let mut callback = Callback::new(alloc);
-    drop(callback.insert(String::from_str(alloc, "e")?, RefOr::T(item))?);
-    let name = String::from_str(alloc, "c")?;
-    let builder = Operation::builder(alloc).callback(name, RefOr::T(callback))?;
-    Ok(builder.build())
+    let callback = one_entry(alloc, expression, RefOr::T(item))?;
+    with_callback(alloc, name, callback)
+}
+
+fn one_entry<T: Drop>(
+    alloc: Global,
+    name: String,
+    value: T,
+) -> Result<BTreeMap<String, T>, AllocError> {
+    let mut map = BTreeMap::new(alloc);
+    drop(map.insert(name, value)?);
+    Ok(map)
+}
+
+fn with_callback(alloc: Global, name: String, callback: Callback) -> Result<Operation, AllocError> {
+    match Operation::builder(alloc).callback(name, RefOr::T(callback)) {
+        Ok(builder) => Ok(builder.build()),
+        Err(refused) => Err(refused),
+    }
 }
 
 // What the operation is written as.

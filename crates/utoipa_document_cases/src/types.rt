@@ -1,6 +1,5 @@
 //! The types by their names.
 
-use serde_json::Value;
 use std::alloc::{AllocError, Global};
 use std::collections::BTreeMap;
 use utoipa::openapi::OpenApi;
@@ -17,30 +16,18 @@ pub fn answer_of_type(
     name: &str,
     text: &str,
 ) -> Result<String, AllocError> {
-    match Value::from_str(alloc, text) {
-        Ok(tree) => of_tree(alloc, question, name, &tree),
-        Err(_) => String::from_str(alloc, "no tree"),
-    }
-}
-
-fn of_tree(
-    alloc: Global,
-    question: Question,
-    name: &str,
-    tree: &Value,
-) -> Result<String, AllocError> {
     match name {
-        "Operation" => answered::<Operation>(alloc, question, tree),
-        "PathItem" => answered::<PathItem>(alloc, question, tree),
-        "Paths" => answered::<Paths>(alloc, question, tree),
-        "OpenApi" => answered::<OpenApi>(alloc, question, tree),
-        "Components" => answered::<Components>(alloc, question, tree),
-        "Callback" => answered::<Callback>(alloc, question, tree),
-        "RefOr<Operation>" => answered::<RefOr<Operation>>(alloc, question, tree),
-        "RefOr<PathItem>" => answered::<RefOr<PathItem>>(alloc, question, tree),
-        "RefOr<Callback>" => answered::<RefOr<Callback>>(alloc, question, tree),
+        "Operation" => answered::<Operation>(alloc, question, text),
+        "PathItem" => answered::<PathItem>(alloc, question, text),
+        "Paths" => answered::<Paths>(alloc, question, text),
+        "OpenApi" => answered::<OpenApi>(alloc, question, text),
+        "Components" => answered::<Components>(alloc, question, text),
+        "Callback" => answered::<Callback>(alloc, question, text),
+        "RefOr<Operation>" => answered::<RefOr<Operation>>(alloc, question, text),
+        "RefOr<PathItem>" => answered::<RefOr<PathItem>>(alloc, question, text),
+        "RefOr<Callback>" => answered::<RefOr<Callback>>(alloc, question, text),
         "BTreeMap<String, Operation>" => {
-            answered::<BTreeMap<String, Operation>>(alloc, question, tree)
+            answered::<BTreeMap<String, Operation>>(alloc, question, text)
         }
         _ => String::from_str(alloc, "no such type"),
     }

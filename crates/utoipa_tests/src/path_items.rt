@@ -42,18 +42,29 @@ fn an_item_holds_the_operations_of_its_methods(rt: HostRuntime) {
     is_written(&rt, item.expect(&rt, "an item"), "{}");
 }
 
+// The builder with an operation of that name at the method.
+fn with_method(
+    rt: &(impl Abort + AllocGlobal),
+    builder: PathItemBuilder,
+    method: HttpMethod,
+    name: &str,
+) -> PathItemBuilder {
+    let operation = operation(rt, name);
+    builder.operation(method, operation)
+}
+
 // The item with an operation at each method, named by its first letters.
 fn every_method(rt: &(impl Abort + AllocGlobal)) -> PathItem {
-    let builder = PathItem::builder(rt.alloc());
-    let builder = builder.operation(HttpMethod::Get, operation(rt, "g"));
-    let builder = builder.operation(HttpMethod::Post, operation(rt, "po"));
-    let builder = builder.operation(HttpMethod::Put, operation(rt, "pu"));
-    let builder = builder.operation(HttpMethod::Delete, operation(rt, "d"));
-    let builder = builder.operation(HttpMethod::Options, operation(rt, "o"));
-    let builder = builder.operation(HttpMethod::Head, operation(rt, "h"));
-    let builder = builder.operation(HttpMethod::Patch, operation(rt, "pa"));
-    let builder = builder.operation(HttpMethod::Trace, operation(rt, "t"));
-    builder.query(Some(operation(rt, "q"))).build()
+    let queried = operation(rt, "q");
+    let builder = PathItem::builder(rt.alloc()).query(Some(queried));
+    let builder = with_method(rt, builder, HttpMethod::Get, "g");
+    let builder = with_method(rt, builder, HttpMethod::Post, "po");
+    let builder = with_method(rt, builder, HttpMethod::Put, "pu");
+    let builder = with_method(rt, builder, HttpMethod::Delete, "d");
+    let builder = with_method(rt, builder, HttpMethod::Options, "o");
+    let builder = with_method(rt, builder, HttpMethod::Head, "h");
+    let builder = with_method(rt, builder, HttpMethod::Patch, "pa");
+    with_method(rt, builder, HttpMethod::Trace, "t").build()
 }
 
 // The operation of the method has that name.
