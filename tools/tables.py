@@ -227,6 +227,7 @@ def tables_file(table_list, named):
 ghost use Rattle.std.specs.Prelude.{◌≡◌};
 ghost use Rattle.utoipa_base.specs.Tables.{table};
 ghost use Rattle.utoipa_tables.specs.Tables.{type_of, rows_of, members_of, members_in};
+ghost use Rattle.utoipa_tables.specs.Titles.{type_title};
 
 use crate::kinds::{%s};
 
@@ -257,7 +258,9 @@ def title(name, comment):
 def titles_text(table_list):
     text = """
 /// An object type as a sentence has it: its name in the standard, after an article.
-pub fn title(object_type: ObjectType) -> &'static str {
+pub fn title(object_type: ObjectType) -> &'static str
+    ensures { result.now ≡ type_title (type_of object_type) }
+{
     match object_type {
 """
     for name, (comment, _) in table_list.items():

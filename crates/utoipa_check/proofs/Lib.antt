@@ -27,3 +27,4 @@ pub mod Mentions
 pub mod MentionsJoined
 pub mod ByMentions
 pub mod Referrers
+pub mod Said

@@ -5,6 +5,7 @@ pub mod Places
 pub mod Views
 pub mod Rows
 pub mod Pointers
+pub mod Said
 pub mod Dropped
 pub mod Has
 pub mod IsDropped

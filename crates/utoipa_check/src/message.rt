@@ -1,11 +1,19 @@
-//! What a misfit says, in words. No clause tells which words they are.
+//! What a misfit says, in words.
+ghost use Rattle.std.specs.Fmt.{WritesOnOk};
+ghost use Rattle.std.specs.Prelude.{◌≡◌, Some};
+ghost use Rattle.utoipa_base.specs.Rows.{texts};
+ghost use Rattle.utoipa_check.specs.Said.{expectation as expected_text, words_text, kinds_text, cause_text, misfit_text};
+ghost use Rattle.utoipa_check.specs.Views.{cause_of, misfit_of};
+ghost use Rattle.utoipa_tables.specs.Tables.{kind_of, kinds_of};
 
 use crate::misfit::{Cause, Misfit};
 use std::fmt;
 use utoipa_tables::{Kind, title};
 
 /// What is expected of a tree of a kind.
-fn expectation(kind: Kind) -> &'static str {
+fn expectation(kind: Kind) -> &'static str
+    ensures { result.now ≡ expected_text (kind_of kind) }
+{
     match kind {
         Kind::Text => "a string",
         Kind::Flag => "true or false",
@@ -30,27 +38,38 @@ fn expectation(kind: Kind) -> &'static str {
 }
 
 /// Writes words, each in quotation marks, with a comma between them.
-fn write_words<W: fmt::Write>(f: &mut fmt::Formatter<W>, words: &[&str]) -> fmt::Result {
-    let mut before = "";
-    for word in words {
-        write!(f, "{before}`{word}`")?;
-        before = ", ";
+fn write_words<W: fmt::Write>(f: &mut fmt::Formatter<W>, words: &[&str]) -> fmt::Result
+    ensures { WritesOnOk W.write_str_gives f.old result (words_text (texts words.now)) f.new }
+{
+    let [first, others @ ..] = words else {
+        return Ok(());
+    };
+    write!(f, "`{first}`")?;
+    for word in others {
+        write!(f, ", `{word}`")?;
     }
     Ok(())
 }
 
 /// Writes what is expected of trees of some kinds, with `or` between them.
-fn write_kinds<W: fmt::Write>(f: &mut fmt::Formatter<W>, kinds: &[Kind]) -> fmt::Result {
-    let mut before = "";
-    for kind in kinds {
+fn write_kinds<W: fmt::Write>(f: &mut fmt::Formatter<W>, kinds: &[Kind]) -> fmt::Result
+    ensures { WritesOnOk W.write_str_gives f.old result (kinds_text (kinds_of kinds.now)) f.new }
+{
+    let [first, others @ ..] = kinds else {
+        return Ok(());
+    };
+    let expected = expectation(*first);
+    write!(f, "{expected}")?;
+    for kind in others {
         let expected = expectation(*kind);
-        write!(f, "{before}{expected}")?;
-        before = " or ";
+        write!(f, " or {expected}")?;
     }
     Ok(())
 }
 
 impl fmt::Display for Cause {
+    ghost output = { λ c. Some (cause_text (cause_of c)) };
+
     fn fmt<W: fmt::Write>(&self, f: &mut fmt::Formatter<W>) -> fmt::Result {
         match self {
             Cause::Absent(name) => write!(f, "the member `{name}` is required"),
@@ -73,6 +92,8 @@ impl fmt::Display for Cause {
 
 /// The JSON Pointer of the place, and the cause.
 impl fmt::Display for Misfit<'_> {
+    ghost output = { λ m. Some (misfit_text (misfit_of m)) };
+
     fn fmt<W: fmt::Write>(&self, f: &mut fmt::Formatter<W>) -> fmt::Result {
         let pointer = &self.pointer;
         let cause = self.cause;

@@ -2,6 +2,7 @@
 ghost use Rattle.std.specs.Prelude.{◌≡◌};
 ghost use Rattle.utoipa_base.specs.Tables.{table};
 ghost use Rattle.utoipa_tables.specs.Tables.{type_of, rows_of, members_of, members_in};
+ghost use Rattle.utoipa_tables.specs.Titles.{type_title};
 
 use crate::kinds::{Kind, Mark, ObjectType, Row, Vocabulary};
 
@@ -1418,7 +1419,9 @@ pub fn rows(object_type: ObjectType) -> &'static [Row]
 }
 
 /// An object type as a sentence has it: its name in the standard, after an article.
-pub fn title(object_type: ObjectType) -> &'static str {
+pub fn title(object_type: ObjectType) -> &'static str
+    ensures { result.now ≡ type_title (type_of object_type) }
+{
     match object_type {
         ObjectType::OpenApiObject => "an OpenAPI Object",
         ObjectType::InfoObject => "an Info Object",
