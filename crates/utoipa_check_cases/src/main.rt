@@ -11,6 +11,7 @@
 //! | `references TYPE` | a JSON text | the places where a document of the type refers, each with its text and what has become of it |
 //! | `located TYPE` | a JSON text | `read` where the text is a document of the type, else the fault with its place |
 //! | `conflicts` | a JSON list of the trees of documents | what is dropped where they are merged |
+//! | `nested_conflicts` | a JSON list: the tree of a document, that of one that is nested into it, and a list of the answers to the nested paths | what is dropped |
 //! | `between` | two JSON texts, a tab between: a tree, and one that was written for it | the places of the first that the second lacks or has another value at, each with what has become of it |
 //! | `dropped TYPE` | a JSON text | the same of its tree and of what the tree is written as when it was read as the type, or the refusal |
 #![tactic(auto)]
@@ -21,7 +22,7 @@ mod kinds;
 mod located;
 mod told;
 
-use crate::conflicts::conflicts_of_text;
+use crate::conflicts::{conflicts_of_text, nested_conflicts_of_text};
 use crate::dropped::{between, dropped_of_text};
 use crate::kinds::kind_named;
 use crate::located::located_of_text;
@@ -52,6 +53,7 @@ fn answer_of(alloc: Global, line: &str) -> Result<String, AllocError> {
         "between" => between(alloc, call.given),
         "dropped" => dropped_of_text(alloc, call.subject(), call.given),
         "conflicts" => conflicts_of_text(alloc, call.given),
+        "nested_conflicts" => nested_conflicts_of_text(alloc, call.given),
         "located" => located_of_text(alloc, call.subject(), call.given),
         _ => answer_of_kind(alloc, &call),
     }

@@ -1,5 +1,6 @@
 pub mod Examples
 pub mod Apart
+pub mod EachTree
 pub mod Found
 pub mod Noting
 pub mod Deciding
@@ -8,4 +9,12 @@ pub mod WhichDecides
 pub mod Listed
 pub mod SameTrees
 pub mod Kept
-pub mod SortedTrees
+pub mod NamedOnce
+pub mod Written
+pub mod WrittenSlots
+pub mod MergedSlots
+pub mod WhatIsLost
+pub mod Telling
+pub mod NestedItems
+pub mod NestedPaths
+pub mod NestedRest

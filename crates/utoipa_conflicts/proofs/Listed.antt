@@ -11,12 +11,12 @@ use Rattle.utoipa_conflicts.proofs.WhichDecides.{decides, is_found}
 
 -- ---- lists
 
-in_first : {A : Type 0} (x : A) (xs ys : List A) → IsOneOf x xs → IsOneOf x (xs ++ ys)
+pub in_first : {A : Type 0} (x : A) (xs ys : List A) → IsOneOf x xs → IsOneOf x (xs ++ ys)
 in_first x [] ys h = absurd h
 in_first x (y ∷ xs) ys (inl h) = inl h
 in_first x (y ∷ xs) ys (inr h) = inr (in_first x xs ys h)
 
-in_second : {A : Type 0} (x : A) (xs ys : List A) → IsOneOf x ys → IsOneOf x (xs ++ ys)
+pub in_second : {A : Type 0} (x : A) (xs ys : List A) → IsOneOf x ys → IsOneOf x (xs ++ ys)
 in_second x [] ys h = h
 in_second x (y ∷ xs) ys h = inr (in_second x xs ys h)
 
@@ -26,12 +26,12 @@ in_either x (y ∷ xs) ys (inl h) = inl (inl h)
 in_either x (y ∷ xs) ys (inr h) = elim (in_either x xs ys h) [ inl g ↦ inl (inr g) | inr g ↦ inr g ]
 
 -- what one of the elements gives
-in_each : {A B : Type 0} (f : A → List B) (x : A) (xs : List A) (y : B) → IsOneOf x xs → IsOneOf y (f x) → IsOneOf y (flat_map f xs)
+pub in_each : {A B : Type 0} (f : A → List B) (x : A) (xs : List A) (y : B) → IsOneOf x xs → IsOneOf y (f x) → IsOneOf y (flat_map f xs)
 in_each f x [] y h g = absurd h
 in_each f x (z ∷ xs) y (inl h) g = in_first y (f z) (flat_map f xs) (subst (λ w. IsOneOf y (f w)) h g)
 in_each f x (z ∷ xs) y (inr h) g = in_second y (f z) (flat_map f xs) (in_each f x xs y h g)
 
-from_each : {A B : Type 0} (f : A → List B) (xs : List A) (y : B) → IsOneOf y (flat_map f xs) → (x : A) × IsOneOf x xs × IsOneOf y (f x)
+pub from_each : {A B : Type 0} (f : A → List B) (xs : List A) (y : B) → IsOneOf y (flat_map f xs) → (x : A) × IsOneOf x xs × IsOneOf y (f x)
 from_each f [] y h = absurd h
 from_each f (z ∷ xs) y h =
     elim (in_either y (f z) (flat_map f xs) h) [
@@ -60,7 +60,7 @@ at_number n (d ∷ ds) t (inr h) = let more = at_number (suc n) ds t h in (suc m
 -- ---- one slot
 
 -- one is dropped where another document decides and has another value
-is_dropped : (b c : Bool) (p : Place) (i j : ℕ) → b ≡ false → c ≡ false → IsOneOf {A = Conflict} (p, i, j) (if b || c then [] else (p, i, j) ∷ [])
+pub is_dropped : (b c : Bool) (p : Place) (i j : ℕ) → b ≡ false → c ≡ false → IsOneOf {A = Conflict} (p, i, j) (if b || c then [] else (p, i, j) ∷ [])
 is_dropped false false p i j e f = inl refl
 is_dropped false true p i j e f = absurd (true≢false f)
 is_dropped true c p i j e f = absurd (true≢false e)
@@ -82,7 +82,7 @@ apart_back : (i j : ℕ) → (i == j) ≡ false → i ≡ j → ⊥
 apart_back i j e same = true≢false (sym (eq-eqb i j same) ∙ e)
 
 -- the document that decides, if one is dropped
-decided : (j : ℕ) (s : Filled) (o : Option Numbered) (x : Conflict) → IsOneOf x (dropped_by j s o)
+pub decided : (j : ℕ) (s : Filled) (o : Option Numbered) (x : Conflict) → IsOneOf x (dropped_by j s o)
     → (t : Numbered) × (o ≡ Some t) × (t.0 ≡ j → ⊥) × (is_value s.1 (at_place (place s.0) t.1) ≡ false) × (x ≡ (place s.0, t.0, j))
 decided j s None x h = absurd h
 decided j s (Some t) x h =

@@ -1,5 +1,5 @@
 -- The holders that a document has, one after the other, and that each name of an object stands once.
-use Rattle.std.specs.Prelude.{◌≡◌, ℕ, List, [], ◌∷◌, ◌++◌, Bool, true, false, ◌&&◌, if◌then◌else◌, Option, None, Some, codes}
+use Rattle.std.specs.Prelude.{◌≡◌, ℕ, List, [], ◌∷◌, ◌++◌, Bool, true, false, ◌&&◌, if◌then◌else◌, Option, None, Some, IfSome, codes}
 use Rattle.std.specs.List.{list_any}
 use Rattle.std.specs.Str.{bytes_eq}
 use Rattle.serde_json.specs.Data.{Data, Members, no_members, member}
@@ -82,3 +82,11 @@ IsItemApart path d = AreApart (members_at d) × EachMember IsMemberApart (member
 -- in `paths`
 abbrev pub ArePathsApart : Data → Type 0
 ArePathsApart d = AreApart (members_at d) × EachMember IsItemApart (members_at d)
+
+-- in what is looked into of components and of `paths`
+abbrev pub IsApartWithin : Data → Type 0
+IsApartWithin d = IfSome (get (codes "components") d) AreComponentsApart × IfSome (get (codes "paths") d) ArePathsApart
+
+-- in each object of a document that is looked into for slots
+abbrev pub IsNamedOnce : Data → Type 0
+IsNamedOnce d = AreApart (members_at d) × IsApartWithin d

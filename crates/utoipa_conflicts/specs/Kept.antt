@@ -1,8 +1,7 @@
 -- What merging keeps in a slot.
-use Rattle.std.specs.Prelude.{◌≡◌, ℕ, List, [], ◌∷◌, Option, Some, option_and_then, map, IsTrue, slice_get, codes}
+use Rattle.std.specs.Prelude.{ℕ, List, [], ◌∷◌, Option, option_and_then, map, IsTrue, codes}
 use Rattle.serde_json.specs.Data.{Data}
 use Rattle.utoipa_check.specs.Misfits.{at_name}
-use Rattle.utoipa_merging.specs.Sorted.{IsSorted}
 use Rattle.utoipa_conflicts.specs.Conflicts.{Slot, document_member, component_entry, components_extension, paths_extension, operation, named_operation, base_member, holder, place, place_of_holder, rule, by_rule, deciding, numbered}
 use Rattle.utoipa_conflicts.specs.IsConflict.{HasValue}
 use Rattle.utoipa_conflicts.specs.Same.{is_value}
@@ -33,7 +32,3 @@ behind_holder s ds = option_and_then (at_place (from_holder s)) (by_rule (rule (
 -- each value that a document has in a slot is the one that is kept there
 abbrev pub IsAllKept : List Data → Type 0
 IsAllKept ds = (j : ℕ) (s : Slot) (v : Data) → HasValue ds j s v → IsTrue (is_value v (kept s ds))
-
--- each of the trees has the members of each object in the order of their names
-abbrev pub AreSorted : List Data → Type 0
-AreSorted ds = (i : ℕ) (d : Data) → slice_get ds i ≡ Some d → IsSorted d

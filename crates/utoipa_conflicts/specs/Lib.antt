@@ -8,3 +8,6 @@ pub mod Holders
 pub mod Views
 pub mod Deciders
 pub mod Texts
+pub mod Merged
+pub mod Nested
+pub mod NestedInto

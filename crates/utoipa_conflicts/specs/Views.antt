@@ -1,14 +1,18 @@
 -- What the values of the program stand for.
-use Rattle.std.specs.Prelude.{List, [], map}
+use Rattle.std.specs.Prelude.{List, [], map, string_bytes}
 use Rattle.serde_json.specs.View.{view}
 use Rattle.utoipa_check.specs.Views.{outwards}
 use Rattle.utoipa_conflicts.specs.Conflicts as specs
 use Rattle.utoipa_conflicts.specs.declared.conflict.Conflict.{Conflict}
+use Rattle.utoipa_conflicts.specs.Merged.{Told}
+use Rattle.utoipa_conflicts.specs.Nested as specs_nested
 use Rattle.utoipa_conflicts.specs.declared.holder.Holder.{Holder}
 use Rattle.utoipa_conflicts.specs.declared.holder.Holder.TheVariants as holders
+use Rattle.utoipa_conflicts.specs.declared.nested.ItemAt.{ItemAt}
 use Rattle.utoipa_conflicts.specs.declared.slot.Filled.{Filled}
 use Rattle.utoipa_conflicts.specs.declared.slot.Slot.{Slot}
 use Rattle.utoipa_conflicts.specs.declared.slot.Slot.TheVariants as slots
+use Rattle.utoipa_conflicts.specs.declared.told.DocumentConflict.{DocumentConflict}
 
 abbrev pub holder_of : Holder → specs.Holder
 holder_of holders.Document = specs.document
@@ -40,3 +44,15 @@ conflict_of c = (outwards c.pointer.steps.items [], c.kept, c.dropped)
 
 abbrev pub all_conflicts : List Conflict → List specs.Conflict
 all_conflicts cs = map conflict_of cs
+
+abbrev pub told_of : DocumentConflict → Told
+told_of c = (string_bytes c.pointer, c.kept, c.dropped)
+
+abbrev pub all_told : List DocumentConflict → List Told
+all_told cs = map told_of cs
+
+abbrev pub item_of : ItemAt → specs_nested.ItemAt
+item_of i = (i.path.now, view i.item.now)
+
+abbrev pub all_items : List ItemAt → List specs_nested.ItemAt
+all_items is = map item_of is

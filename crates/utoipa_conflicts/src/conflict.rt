@@ -1,11 +1,13 @@
 //! What is dropped where documents are merged.
-ghost use Rattle.std.specs.Prelude.{◌≡◌, ◌↔◌, ◌++◌, [], ℕ, Some, IfOk, OnOk, option_map};
+ghost use Rattle.std.specs.Prelude.{◌≡◌, ◌↔◌, ◌++◌, [], ℕ, Some, All, IfOk, OnOk, option_map};
 ghost use Rattle.std.specs.List.{flat_map};
 ghost use Rattle.serde_json.specs.View.{view};
 ghost use Rattle.utoipa_check.specs.Views.{outwards};
 ghost use Rattle.utoipa_conflicts.specs.Conflicts as specs;
 ghost use Rattle.utoipa_conflicts.specs.Deciders.{noted, numbered_of, trees_of};
 ghost use Rattle.utoipa_conflicts.specs.IsConflict.{IsOneOf, IsConflict, AllKept};
+ghost use Rattle.utoipa_conflicts.specs.Holders.{IsNamedOnce};
+ghost use Rattle.utoipa_conflicts.specs.Kept.{IsAllKept};
 ghost use Rattle.utoipa_conflicts.specs.Same.{is_value};
 ghost use Rattle.utoipa_conflicts.specs.Texts.{conflict_text};
 ghost use Rattle.utoipa_conflicts.specs.Trees.{Place, at_place};
@@ -54,7 +56,7 @@ fn path_entry<'v>(document: &'v Value, path: &str) -> Option<&'v Value>
 }
 
 /// What a document has in a slot.
-fn value_in<'v>(document: &'v Value, slot: Slot<'_>) -> Option<&'v Value>
+pub(crate) fn value_in<'v>(document: &'v Value, slot: Slot<'_>) -> Option<&'v Value>
     ensures { option_map (λ v. view v.now) result ≡ at_place (specs.place (slot_of slot.entry)) (view document.now) }
 {
     match slot {
@@ -111,7 +113,7 @@ fn pointer_to<'a>(alloc: Global, slot: Slot<'a>) -> Result<Pointer<'a>, AllocErr
 
 /// Adds a value that a document has in a slot, if another document decides there and has another value, or none. Fails where memory runs
 /// out.
-fn put_if_dropped<'a>(
+pub(crate) fn put_if_dropped<'a>(
     alloc: Global,
     decider: Document<'_>,
     number: usize,
@@ -183,6 +185,8 @@ pub fn tree_conflicts<'a>(
     ensures exact { IfOk result (λ v. all_conflicts v.items ≡ specs.conflicts (trees_of trees.now)) }
     ensures listed { IfOk result (λ v. (p : Place) (i j : ℕ) → IsOneOf (p, i, j) (all_conflicts v.items) ↔ IsConflict (trees_of trees.now) p i j) }
     ensures nothing { IfOk result (λ v. (v.items ≡ []) ↔ AllKept (trees_of trees.now)) }
+    ensures kept { IfOk result (λ v. (v.items ≡ []) ↔ IsAllKept (trees_of trees.now)) }
+    ensures once { IfOk result (λ _. All IsNamedOnce (trees_of trees.now)) }
 {
     let deciders = deciders(alloc, trees)?;
     let mut found = Vec::new(alloc);

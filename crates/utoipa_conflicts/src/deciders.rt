@@ -1,5 +1,5 @@
 //! Which document decides the slots of each holder.
-ghost use Rattle.std.specs.Prelude.{◌≡◌, IfOk, OnOk, if◌then◌else◌, option_map};
+ghost use Rattle.std.specs.Prelude.{◌≡◌, All, IfOk, OnOk, if◌then◌else◌, option_map};
 ghost use Rattle.utoipa_conflicts.specs.Conflicts as specs;
 ghost use Rattle.utoipa_conflicts.specs.Deciders.{noted, numbered_of, is_last, with_one, trees_of};
 ghost use Rattle.utoipa_conflicts.specs.Holders as lists;
@@ -70,7 +70,8 @@ pub(crate) fn deciders<'a>(
     alloc: Global,
     trees: &'a [Value],
 ) -> Result<BTreeMap<Holder<'a>, Document<'a>>, AllocError>
-    ensures { IfOk result (λ m. (h : specs.Holder) → noted m h ≡ specs.deciding h (specs.numbered 0 (trees_of trees.now))) }
+    ensures decided { IfOk result (λ m. (h : specs.Holder) → noted m h ≡ specs.deciding h (specs.numbered 0 (trees_of trees.now))) }
+    ensures apart { IfOk result (λ _. All lists.IsApartWithin (trees_of trees.now)) }
 {
     let mut deciders = BTreeMap::new(alloc);
     for (number, tree) in trees.iter().enumerate() {

@@ -194,7 +194,8 @@ fn push_paths_of<'a>(holders: &mut Vec<Holder<'a>>, document: &'a Value) -> Resu
 
 /// The holders of a document. Fails where memory runs out.
 pub(crate) fn holders<'a>(alloc: Global, document: &'a Value) -> Result<Holders<'a>, AllocError>
-    ensures { IfOk result (λ v. (h : specs.Holder) → lists.is_among h (all_holders v.items) ≡ specs.has h (view document.now)) }
+    ensures listed { IfOk result (λ v. (h : specs.Holder) → lists.is_among h (all_holders v.items) ≡ specs.has h (view document.now)) }
+    ensures apart { IfOk result (λ _. lists.IsApartWithin (view document.now)) }
 {
     let mut holders = Vec::new(alloc);
     holders.push(Holder::Document)?;

@@ -10,14 +10,24 @@
 //! Two passes make it, and no document is compared with all others. The first lists the holders of each document (`holder.rt`) and notes for
 //! each holder the document that decides (`deciders.rt`). The second lists the slots of each document (`slot.rt`) and looks up, for each,
 //! what the document that decides has there (`conflict.rt`).
+//!
+//! Of unambiguous documents the conflicts are exactly the values that the document lacks that they are merged into, and where there is none,
+//! it lacks none ([`laws`], `specs/Merged.antt`). Nesting drops more, which [`tree_nested_conflicts`] lists (`nested.rt`). Both are there for
+//! documents of any type too, each place as a text (`told.rt`).
 #![tactic(auto)]
 
 mod conflict;
 mod deciders;
 mod holder;
 pub mod laws;
+mod nested;
 mod same;
 mod slot;
+mod told;
 
 pub use conflict::{Conflict, tree_conflicts};
+pub use nested::tree_nested_conflicts;
 pub use same::is_same;
+pub use told::{
+    DocumentConflict, document_conflicts, document_conflicts_behind, document_nested_conflicts,
+};

@@ -3,6 +3,7 @@ ghost use Rattle.std.specs.Prelude.{◌≡◌, ◌++◌, IfOk, OnOk, [], option_
 ghost use Rattle.serde_json.specs.View.{view, members_view};
 ghost use Rattle.utoipa_check.specs.Places.{members_at};
 ghost use Rattle.utoipa_conflicts.specs.Conflicts as specs;
+ghost use Rattle.utoipa_conflicts.specs.Holders.{AreApart};
 ghost use Rattle.utoipa_conflicts.specs.Trees.{each_member};
 ghost use Rattle.utoipa_conflicts.specs.Views.{slot_of, filled_of, all_filled};
 
@@ -215,15 +216,40 @@ fn push_member_slots<'a>(
     }
 }
 
+/// Adds the slots of all members of a document. Fails where memory runs out.
+fn push_all_slots<'a>(
+    slots: &mut Vec<Filled<'a>>,
+    members: &'a Map<String, Value>,
+) -> Result<(), AllocError>
+    ensures listed { OnOk result (all_filled slots.new.items ≡ all_filled slots.old.items ++ each_member specs.member_slots (members_view members.now.entries)) }
+    ensures apart { OnOk result (AreApart (members_view members.now.entries)) }
+{
+    for (name, member) in members.iter() {
+        push_member_slots(slots, name.as_str(), member)?;
+    }
+    Ok(())
+}
+
+/// Adds the slots of a document. Fails where memory runs out.
+fn push_document_slots<'a>(
+    slots: &mut Vec<Filled<'a>>,
+    document: &'a Value,
+) -> Result<(), AllocError>
+    ensures listed { OnOk result (all_filled slots.new.items ≡ all_filled slots.old.items ++ specs.slots (view document.now)) }
+    ensures apart { OnOk result (AreApart (members_at (view document.now))) }
+{
+    match document {
+        Value::Object(members) => push_all_slots(slots, members),
+        _ => Ok(()),
+    }
+}
+
 /// The slots of a document, in the order of its members. Fails where memory runs out.
 pub(crate) fn slots<'a>(alloc: Global, document: &'a Value) -> Result<Slots<'a>, AllocError>
-    ensures { IfOk result (λ v. all_filled v.items ≡ specs.slots (view document.now)) }
+    ensures listed { IfOk result (λ v. all_filled v.items ≡ specs.slots (view document.now)) }
+    ensures apart { IfOk result (λ _. AreApart (members_at (view document.now))) }
 {
     let mut slots = Vec::new(alloc);
-    if let Value::Object(members) = document {
-        for (name, member) in members.iter() {
-            push_member_slots(&mut slots, name.as_str(), member)?;
-        }
-    }
+    push_document_slots(&mut slots, document)?;
     Ok(slots)
 }

@@ -7,8 +7,8 @@ use Rattle.utoipa_conflicts.specs.declared.holder.Holder.TheVariants as variants
 use Rattle.utoipa_conflicts.proofs.Found.{all_found}
 use Rattle.utoipa_conflicts.proofs.holder.holders.Goals as goal
 
-pub returns : goal.returns
-returns c = λ h.
+pub returns-clause-listed : goal.returns-clause-listed
+returns-clause-listed c = λ h.
     let components = holders_at component_holders (get (codes "components") (view c.args.document.now)) in
     let paths = holders_at path_holders (get (codes "paths") (view c.args.document.now)) in
     let first = ap all_holders (c.in_ok-push.ensures.items ∙ ap (λ hs. hs ++ variants.Document ∷ []) c.new-holders.ensures.items) in

@@ -3,7 +3,7 @@ use Rattle.serde_json.specs.View.{members_view}
 use Rattle.utoipa_conflicts.specs.Conflicts.{member_slots}
 use Rattle.utoipa_conflicts.specs.Trees.{each_member}
 use Rattle.utoipa_conflicts.specs.Views.{all_filled}
-use Rattle.utoipa_conflicts.proofs.slot.slots.Given as goal
+use Rattle.utoipa_conflicts.proofs.slot.push_all_slots.Given as goal
 
 abbrev pub invariant-loop-name : goal.invariant-loop-name
 invariant-loop-name l =

@@ -1,0 +1,150 @@
+//! What is dropped where documents are merged, told of the documents and not of their trees.
+ghost use Rattle.std.specs.Prelude.{◌≡◌, ◌++◌, Some, IfOk, map, string_bytes};
+ghost use Rattle.utoipa_base.specs.Docs.{Doc};
+ghost use Rattle.utoipa_base.specs.Writing.{write};
+ghost use Rattle.utoipa_conflicts.specs.Deciders.{trees_of};
+ghost use Rattle.utoipa_conflicts.specs.Merged as specs;
+ghost use Rattle.utoipa_conflicts.specs.Nested.{behind, told_nested};
+ghost use Rattle.utoipa_conflicts.specs.Texts.{told_text};
+ghost use Rattle.utoipa_conflicts.specs.Views.{conflict_of, item_of, told_of, all_told};
+
+use crate::conflict::{Conflict, tree_conflicts};
+use crate::nested::{ItemAt, path_items, tree_nested_conflicts};
+use serde_json::Value;
+use std::alloc::{AllocError, Global};
+use std::fmt;
+use utoipa_base::Tree;
+
+/// A value of a document that is dropped where documents are merged.
+#[derive(Debug, Drop)]
+pub struct DocumentConflict {
+    /// The place of the value, as a JSON Pointer (RFC 6901).
+    pub pointer: String,
+    /// The number of the document that decides there. What it has there is kept, and where it has nothing, nothing is.
+    pub kept: usize,
+    /// The number of the document whose value is dropped.
+    pub dropped: usize,
+}
+
+/// A conflict, with its place as a text. Fails where memory runs out.
+fn in_text(alloc: Global, conflict: &Conflict<'_>) -> Result<DocumentConflict, AllocError>
+    ensures { IfOk result (λ told. told_of told ≡ specs.in_text (conflict_of conflict.now)) }
+{
+    let place = &conflict.pointer;
+    let pointer = format!(in alloc; "{place}")?;
+    Ok(DocumentConflict {
+        pointer,
+        kept: conflict.kept,
+        dropped: conflict.dropped,
+    })
+}
+
+/// Conflicts, each with its place as a text. Fails where memory runs out.
+fn all_in_text(
+    alloc: Global,
+    conflicts: &[Conflict<'_>],
+) -> Result<Vec<DocumentConflict>, AllocError>
+    ensures { IfOk result (λ v. all_told v.items ≡ map (λ c. specs.in_text (conflict_of c)) conflicts.now) }
+{
+    let mut told = Vec::new(alloc);
+    for conflict in conflicts {
+        told.push(in_text(alloc, conflict)?)?;
+    }
+    Ok(told)
+}
+
+/// The trees that documents are written as. Fails where memory runs out.
+fn written<T: Tree>(alloc: Global, documents: &[T]) -> Result<Vec<Value>, AllocError>
+    ensures { IfOk result (λ v. trees_of v.items ≡ map (λ d. write (T.doc d)) documents.now) }
+{
+    let mut trees = Vec::new(alloc);
+    for document in documents {
+        trees.push(document.to_value(alloc)?)?;
+    }
+    Ok(trees)
+}
+
+/// What is dropped where documents are merged, as [`tree_conflicts`] lists it of the trees that they are written as. Fails where memory runs
+/// out.
+///
+/// Of unambiguous OpenAPI documents these are the values that the merged document lacks, all of them and no others: where there is none, each
+/// value that a document has in a slot stands there in the merged document.
+pub fn document_conflicts<T: Tree>(
+    alloc: Global,
+    documents: &[T],
+) -> Result<Vec<DocumentConflict>, AllocError>
+    ensures exact { IfOk result (λ v. all_told v.items ≡ specs.told (map T.doc documents.now)) }
+    ensures lost { IfOk result (λ v. (d : Doc) → specs.AreMergedInto (map T.doc documents.now) d
+        → specs.TellWhatIsLost (map T.doc documents.now) d (all_told v.items)) }
+{
+    let trees = written(alloc, documents)?;
+    let conflicts = tree_conflicts(alloc, &trees)?;
+    all_in_text(alloc, &conflicts)
+}
+
+/// A base, and a path behind it. Fails where memory runs out.
+fn joined(alloc: Global, base: &str, path: &str) -> Result<String, AllocError>
+    ensures { IfOk result (λ s. string_bytes s ≡ base.now ++ path.now) }
+{
+    let mut text = String::with_capacity(alloc, base.len() + path.len())?;
+    text.push_str(base)?;
+    text.push_str(path)?;
+    Ok(text)
+}
+
+/// The paths of some items, each behind a base. Fails where memory runs out.
+fn all_joined(alloc: Global, base: &str, items: &Vec<ItemAt<'_>>) -> Result<Vec<String>, AllocError>
+    ensures { IfOk result (λ v. map string_bytes v.items ≡ map (λ i. base.now ++ (item_of i).0) items.now.items) }
+{
+    let mut paths = Vec::new(alloc);
+    for item in items {
+        paths.push(joined(alloc, base, item.path)?)?;
+    }
+    Ok(paths)
+}
+
+/// What is dropped where a document, 1, is nested into another, 0, and a composer of paths answers so to the nested paths, in their order, as
+/// [`tree_nested_conflicts`] lists it of the trees that they are written as. Fails where memory runs out.
+pub fn document_nested_conflicts<T: Tree>(
+    alloc: Global,
+    own: &T,
+    nested: &T,
+    answers: &[String],
+) -> Result<Vec<DocumentConflict>, AllocError>
+    ensures { IfOk result (λ v. all_told v.items ≡ told_nested (map string_bytes answers.now) (T.doc own.now) (T.doc nested.now)) }
+{
+    let own = own.to_value(alloc)?;
+    let nested = nested.to_value(alloc)?;
+    let conflicts = tree_nested_conflicts(alloc, &own, &nested, answers)?;
+    all_in_text(alloc, &conflicts)
+}
+
+/// What is dropped where a document, 1, is nested into another, 0, and each of its paths comes behind a base. Fails where memory runs out.
+pub fn document_conflicts_behind<T: Tree>(
+    alloc: Global,
+    own: &T,
+    base: &str,
+    nested: &T,
+) -> Result<Vec<DocumentConflict>, AllocError>
+    ensures { IfOk result (λ v. all_told v.items ≡ told_nested (behind base.now (write (T.doc nested.now))) (T.doc own.now) (T.doc nested.now)) }
+{
+    let tree = nested.to_value(alloc)?;
+    let items = path_items(alloc, &tree)?;
+    let answers = all_joined(alloc, base, &items)?;
+    document_nested_conflicts(alloc, own, nested, &answers)
+}
+
+/// The JSON Pointer of the place, whose value is dropped there, and which document decides.
+impl fmt::Display for DocumentConflict {
+    ghost output = { λ c. Some (told_text (told_of c).0 c.kept c.dropped) };
+
+    fn fmt<W: fmt::Write>(&self, f: &mut fmt::Formatter<W>) -> fmt::Result {
+        let pointer = &self.pointer;
+        let dropped = self.dropped;
+        let kept = self.kept;
+        write!(
+            f,
+            "{pointer}: document {dropped}'s value is dropped, since document {kept} decides"
+        )
+    }
+}
