@@ -1,0 +1,57 @@
+-- What is said of a place and of a text.
+use Rattle.std.proofs.Common.{◌≡◌, ◌==◌, ◌+◌, ◌<◌, ℕ, suc, List, [], ◌∷◌, ◌++◌, Bool, true, false, if◌then◌else◌, length, map, drop, drop-cons, get_or, codes, Result, Ok, Err, IfOk, refl, sym, ap, ◌∙◌, append_assoc, true≢false, arith}
+use Rattle.std.specs.List.{flat_map}
+use Rattle.std.specs.Str.{IsUtf8, is_utf8}
+use Rattle.std.proofs.lemmas.Str.{IsUtf8-from_is_utf8}
+use Rattle.utoipa_check.specs.Misfits as specs
+use Rattle.utoipa_check.specs.Pointers.{pointer_text}
+use Rattle.utoipa_check.specs.Views.{step_of, outwards}
+use Rattle.utoipa_check.specs.declared.misfit.Step.{Step}
+use Rattle.utoipa_findings.specs.Lines.{place_text}
+use Rattle.utoipa_findings.specs.Sources.{is_like_yaml, yaml_said, no_json, no_tree}
+
+pub if_ok : {T E : Type 0} (P Q : T → Type 0) (r : Result T E) → IfOk r P → ((v : T) → P v → Q v) → IfOk r Q
+if_ok P Q (Ok v) h g = g v h
+if_ok P Q (Err e) h g = tt
+
+-- ---- places
+
+place_behind : (xs : List Step) (s : specs.Step) (ss : List specs.Step) (said : List ℕ)
+    → pointer_text (outwards xs (s ∷ ss)) ++ (codes ": " ++ said) ≡ place_text (outwards xs (s ∷ ss)) ++ said
+place_behind [] s ss said = sym (append_assoc (pointer_text (s ∷ ss)) (codes ": ") said)
+place_behind (x ∷ xs) s ss said = place_behind xs (step_of x) (s ∷ ss) said
+
+-- a place that is not the root
+pub some_place : (xs : List Step) (n : ℕ) (b : Bool) (said : List ℕ) → b ≡ n == 0 → n ≡ length xs → b ≡ false
+    → pointer_text (outwards xs []) ++ (codes ": " ++ said) ≡ place_text (outwards xs []) ++ said
+some_place [] n b said test is some = absurd (true≢false (sym (test ∙ ap (λ m. m == 0) is) ∙ some))
+some_place (x ∷ xs) n b said test is some = place_behind xs (step_of x) [] said
+
+-- ---- texts
+
+by_utf8 : (name bytes : List ℕ) (b : Bool) → is_utf8 bytes ≡ b → no_tree name bytes ≡ if b then no_json name bytes else codes "this is no UTF-8\n"
+by_utf8 name bytes b e = ap (λ t. if t then no_json name bytes else codes "this is no UTF-8\n") e
+
+no_utf8_by : (name bytes : List ℕ) (b : Bool) → is_utf8 bytes ≡ b → (IsUtf8 bytes → ⊥) → no_tree name bytes ≡ codes "this is no UTF-8\n"
+no_utf8_by name bytes true e h = absurd (h (IsUtf8-from_is_utf8 bytes e))
+no_utf8_by name bytes false e h = by_utf8 name bytes false e
+
+pub no_utf8 : (name bytes : List ℕ) → (IsUtf8 bytes → ⊥) → no_tree name bytes ≡ codes "this is no UTF-8\n"
+no_utf8 name bytes h = no_utf8_by name bytes (is_utf8 bytes) refl h
+
+pub said_of_yaml : (name bytes : List ℕ) → is_like_yaml bytes ≡ true → no_json name bytes ≡ yaml_said name
+said_of_yaml name bytes e = ap (λ b. if b then yaml_said name else codes "this is no JSON\n") e
+
+pub said_of_other : (name bytes : List ℕ) → is_like_yaml bytes ≡ false → no_json name bytes ≡ codes "this is no JSON\n"
+said_of_other name bytes e = ap (λ b. if b then yaml_said name else codes "this is no JSON\n") e
+
+-- ---- lines, one after the other
+
+-- one more line
+pub line_more : {X Y : Type 0} (f : Y → List ℕ) (g : X → Y) (xs : List X) (i : ℕ) (x d : X) (old new all : List ℕ) → old ++ flat_map f (map g (drop i xs)) ≡ all
+    → i < length xs → x ≡ get_or xs i d → new ≡ old ++ f (g x) → new ++ flat_map f (map g (drop (i + 1) xs)) ≡ all
+line_more f g xs i x d old new all before less is put =
+    let next : suc i ≡ i + 1 = omega arith in
+    let first : drop i xs ≡ x ∷ drop (i + 1) xs = drop-cons xs i d less ∙ ap (λ y. y ∷ drop (suc i) xs) (sym is) ∙ ap (λ n. x ∷ drop n xs) next in
+    let rest = flat_map f (map g (drop (i + 1) xs)) in
+    ap (λ s. s ++ rest) put ∙ append_assoc old (f (g x)) rest ∙ sym (ap (λ ys. old ++ flat_map f (map g ys)) first) ∙ before

@@ -1,0 +1,61 @@
+-- What is found in a tree that is to be a document of a kind.
+use Rattle.std.specs.Prelude.{ℕ, List, [], ◌∷◌, ◌++◌, map, if◌then◌else◌, Option, None, Some}
+use Rattle.std.specs.List.{flat_map}
+use Rattle.serde_json.specs.Data.{Data}
+use Rattle.serde_json.specs.Written.{has_float}
+use Rattle.utoipa_base.specs.Kinds.{Kind}
+use Rattle.utoipa_check.specs.Doubts.{doubts}
+use Rattle.utoipa_check.specs.Dropped.{Loss, Dropped, dropped_by}
+use Rattle.utoipa_check.specs.Misfits.{Step, Cause, Misfit, misfits_and_fractions}
+use Rattle.utoipa_check.specs.References.{Reference, references}
+use Rattle.utoipa_check.specs.Referring.{State, dangling, resolved, external}
+
+-- what is found at a place
+pub data What : Type 0 where
+  -- the tree there does not fit
+  unfit : Cause → What
+  -- the tree there does not fit what was meant, and is read as something else
+  doubtful : Cause → What
+  -- what has become of the tree there in its document, written again
+  lost : Loss → What
+  -- the text there is a reference that leads to nothing
+  dangles : List ℕ → What
+
+-- a place, and what is found there
+abbrev pub Finding : Type 0
+Finding = List Step × What
+
+abbrev pub unfit_at : Misfit → Finding
+unfit_at m = (m.0, unfit m.1)
+
+abbrev pub doubtful_at : Misfit → Finding
+doubtful_at m = (m.0, doubtful m.1)
+
+abbrev pub lost_at : Dropped → Finding
+lost_at p = (p.0, lost p.1)
+
+abbrev pub if_dangling : State → Finding → List Finding
+if_dangling dangling f = f ∷ []
+if_dangling resolved f = []
+if_dangling external f = []
+
+-- a reference, if it leads to nothing in the tree
+abbrev pub dangles_at : Reference → List Finding
+dangles_at r = if_dangling r.1 (r.0.0, dangles r.0.1.1)
+
+abbrev pub or_none : Option (List Dropped) → List Dropped
+or_none None = []
+or_none (Some ps) = ps
+
+-- what is dropped of a tree that is read and written again: nothing of a tree that is not read
+abbrev pub dropped_where_read : Kind → Data → List Dropped
+dropped_where_read k t = if has_float t then [] else or_none (dropped_by k t)
+
+-- why a tree is no document of a kind
+abbrev pub refusals : Kind → Data → List Finding
+refusals k t = map unfit_at (misfits_and_fractions k t)
+
+-- What is found in a tree: what does not fit, what is read otherwise than it was meant, what is dropped, and the references that lead to
+-- nothing. Each in the order of the member tables, but what is dropped in that of the tree.
+abbrev pub findings : Kind → Data → List Finding
+findings k t = ((refusals k t ++ map doubtful_at (doubts k t)) ++ map lost_at (dropped_where_read k t)) ++ flat_map dangles_at (references k t)

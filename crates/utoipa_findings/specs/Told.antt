@@ -1,0 +1,33 @@
+-- What is told of a file.
+use Rattle.std.specs.Prelude.{◌≡◌, ℕ, List, Option, None, Some, string_bytes}
+use Rattle.serde_json.specs.Data.{Data}
+use Rattle.utoipa_base.specs.Docs.{Doc}
+use Rattle.utoipa_base.specs.Kinds.{Kind}
+use Rattle.utoipa_findings.specs.Findings.{Finding, refusals, findings}
+use Rattle.utoipa_findings.specs.Lines.{lines_of}
+use Rattle.utoipa_findings.specs.Sources.{IsSourceOf, IsTreelessLine, tree_of}
+use Rattle.utoipa_findings.specs.declared.refusal.Refusal.{Refusal}
+use Rattle.utoipa_findings.specs.declared.refusal.Refusal.TheVariants.{Memory, Told}
+
+-- a refusal of which P holds of the lines that it tells; want of memory tells nothing
+abbrev pub Tells : (List ℕ → Type 0) → Refusal → Type 0
+Tells P Memory = Unit {0}
+Tells P (Told lines) = P (string_bytes lines)
+
+-- the file has no tree, and this line tells so
+abbrev pub IsTreeless : (name bytes told : List ℕ) → Type 0
+IsTreeless name bytes told = (tree_of bytes ≡ None) × IsTreelessLine name bytes told
+
+-- the lines of a file, by its tree: of what f lists of it, or that there is none
+abbrev pub IsTold : (f : Data → List Finding) → (name bytes : List ℕ) → Option Data → (told : List ℕ) → Type 0
+IsTold f name bytes None told = IsTreelessLine name bytes told
+IsTold f name bytes (Some t) told = told ≡ lines_of name (f t)
+
+-- what is found in a file
+abbrev pub IsChecked : Kind → (name bytes told : List ℕ) → Type 0
+IsChecked k name bytes told = IsTold (findings k) name bytes (tree_of bytes) told
+
+-- the file is no document of the kind, and the lines tell why
+pub record IsRefused (k : Kind) (name bytes told : List ℕ) : Type 0 where
+  pub none : (d : Doc) → IsSourceOf k d bytes → ⊥
+  pub lines : IsTold (refusals k) name bytes (tree_of bytes) told

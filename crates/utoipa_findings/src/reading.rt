@@ -1,0 +1,56 @@
+//! The document that a file is, or why it is none.
+ghost use Rattle.std.specs.Prelude.{◌≡◌, IfOk, IfErr, string_bytes};
+ghost use Rattle.std.specs.Str.{IsUtf8};
+ghost use Rattle.serde_json.specs.View.{view};
+ghost use Rattle.utoipa_findings.specs.Findings as specs;
+ghost use Rattle.utoipa_findings.specs.Lines.{lines_of as lines_text};
+ghost use Rattle.utoipa_findings.specs.Sources.{IsSourceOf, tree_of};
+ghost use Rattle.utoipa_findings.specs.Told.{Tells, IsTold, IsRefused};
+ghost use Rattle.utoipa_tables.specs.Tables.{kind_of};
+
+use crate::lines::lines_of;
+use crate::refusal::Refusal;
+use crate::report::put_refusals;
+use crate::source::Source;
+use crate::text::{text_of, tree_of_text};
+use serde_json::Value;
+use std::alloc::{AllocError, Global};
+use utoipa_base::{ReadFault, Tree};
+use utoipa_tables::Kind;
+
+/// The lines of all that does not fit in a tree. Fails where memory runs out.
+fn refusal_lines(alloc: Global, kind: Kind, name: &str, tree: &Value) -> Result<String, AllocError>
+    ensures { IfOk result (λ lines. string_bytes lines ≡ lines_text name.now (specs.refusals (kind_of kind) (view tree.now))) }
+{
+    let mut found = Vec::new(alloc);
+    put_refusals(alloc, kind, tree, &mut found)?;
+    lines_of(alloc, name, &found)
+}
+
+/// The lines that tell why a text is no document of a kind. Fails where memory runs out.
+fn why_refused(alloc: Global, kind: Kind, name: &str, text: &str) -> Result<String, AllocError>
+    requires { IsUtf8 text.now }
+    ensures { IfOk result (λ lines. IsTold (specs.refusals (kind_of kind)) name.now text.now (tree_of text.now) (string_bytes lines)) }
+{
+    match tree_of_text(alloc, name, text) {
+        Ok(tree) => refusal_lines(alloc, kind, name, &tree),
+        Err(Refusal::Told(line)) => Ok(line),
+        Err(Refusal::Memory) => Err(AllocError),
+    }
+}
+
+/// The document of a type that a file is. The kind is that of the type.
+///
+/// Fails where the file is none, with a line for each place that does not fit, or for the text that is no JSON; and where memory runs out.
+pub fn document_of<T: Tree>(alloc: Global, kind: Kind, source: Source<'_>) -> Result<T, Refusal>
+    requires { kind_of kind ≡ T.kind }
+    ensures ok { IfOk result (λ document. IsSourceOf T.kind (T.doc document) source.entry.bytes.now) }
+    ensures err { IfErr result (Tells (IsRefused (kind_of kind) source.entry.name.now source.entry.bytes.now)) }
+{
+    let text = text_of(alloc, source)?;
+    match T::from_json_text(alloc, text) {
+        Ok(document) => Ok(document),
+        Err(ReadFault::Memory) => Err(Refusal::Memory),
+        Err(_) => Err(Refusal::Told(why_refused(alloc, kind, source.name, text)?)),
+    }
+}

@@ -1,0 +1,124 @@
+//! The text of a file, and its tree.
+ghost use Rattle.std.specs.Prelude.{◌≡◌, Option, None, Some, IfOk, IfErr, string_bytes};
+ghost use Rattle.std.specs.Str.{IsUtf8};
+ghost use Rattle.serde_json.specs.Read.{read as read_text};
+ghost use Rattle.serde_json.specs.View.{view};
+ghost use Rattle.utoipa_findings.specs.Sources as specs;
+ghost use Rattle.utoipa_findings.specs.Told.{Tells, IsTreeless};
+
+use crate::refusal::Refusal;
+use crate::source::Source;
+use serde_json::Value;
+use simdutf8::compat::from_utf8;
+use std::alloc::{AllocError, Global};
+
+/// Whether a byte is white space of JSON.
+fn is_blank(byte: u8) -> bool
+    ensures { result ≡ specs.is_blank byte }
+{
+    byte == b' ' || byte == b'\t' || byte == b'\n' || byte == b'\r'
+}
+
+/// The first byte of a text that is no white space.
+fn first_byte(text: &[u8]) -> Option<u8>
+    ensures { result ≡ specs.first_byte text.now }
+{
+    for byte in text {
+        if !is_blank(*byte) {
+            return Some(*byte);
+        }
+    }
+    None
+}
+
+/// Whether a text that is no JSON is rather YAML: it begins with neither a brace nor a bracket.
+fn is_like_yaml(text: &[u8]) -> bool
+    ensures { result ≡ specs.is_like_yaml text.now }
+{
+    match first_byte(text) {
+        Some(byte) => byte != b'{' && byte != b'[',
+        None => false,
+    }
+}
+
+/// The line and the column of a byte of a text, each counted from 1.
+fn position(text: &[u8], at: usize) -> (usize, usize) {
+    let mut line = 1usize;
+    let mut column = 1usize;
+    for byte in text.iter().take(at) {
+        if *byte == b'\n' {
+            line = line.saturating_add(1);
+            column = 1;
+        } else {
+            column = column.saturating_add(1);
+        }
+    }
+    (line, column)
+}
+
+/// The line that tells of a text that it is no JSON, broken at a line and a column. Fails where memory runs out.
+fn no_json_line(
+    alloc: Global,
+    name: &str,
+    text: &str,
+    line: usize,
+    column: usize,
+) -> Result<String, AllocError>
+    ensures { IfOk result (λ told. string_bytes told ≡ specs.text_line name.now line column (specs.no_json name.now text.now)) }
+{
+    if is_like_yaml(text.as_bytes()) {
+        return format!(in alloc;
+            "{name}:{line}:{column}: this is no JSON, and looks like YAML, which is not read: yq -o json {name} | openapi check -\n"
+        );
+    }
+    format!(in alloc; "{name}:{line}:{column}: this is no JSON\n")
+}
+
+/// The line that tells of bytes that they are no UTF-8 from a place on. Fails where memory runs out.
+fn no_utf8_line(alloc: Global, source: Source<'_>, at: usize) -> Result<String, AllocError>
+    requires { ¬ IsUtf8 source.bytes.now }
+    ensures { IfOk result (λ told. specs.IsTreelessLine source.entry.name.now source.entry.bytes.now (string_bytes told)) }
+{
+    let (line, column) = position(source.bytes, at);
+    let name = source.name;
+    format!(in alloc; "{name}:{line}:{column}: this is no UTF-8\n")
+}
+
+/// The bytes of a file as a text. Fails where they are no UTF-8, and where memory runs out.
+pub(crate) fn text_of(alloc: Global, source: Source<'_>) -> Result<&str, Refusal>
+    ensures ok { IfOk result (λ text. (text.now ≡ source.entry.bytes.now) × IsUtf8 source.entry.bytes.now) }
+    ensures err { IfErr result (Tells (IsTreeless source.entry.name.now source.entry.bytes.now)) }
+{
+    match from_utf8(source.bytes) {
+        Ok(text) => Ok(text),
+        Err(error) => {
+            let line = no_utf8_line(alloc, source, error.valid_up_to())?;
+            Err(Refusal::Told(line))
+        }
+    }
+}
+
+/// The tree of a text. Fails where it is no JSON, and where memory runs out.
+pub(crate) fn tree_of_text(alloc: Global, name: &str, text: &str) -> Result<Value, Refusal>
+    requires { IsUtf8 text.now }
+    ensures ok { IfOk result (λ tree. read_text text.now ≡ Some (view tree)) }
+    ensures err { IfErr result (Tells (IsTreeless name.now text.now)) }
+{
+    match Value::from_str(alloc, text) {
+        Ok(tree) => Ok(tree),
+        Err(error) if error.is_memory() => Err(Refusal::Memory),
+        Err(error) => {
+            let line = no_json_line(alloc, name, text, error.line(), error.column())?;
+            Err(Refusal::Told(line))
+        }
+    }
+}
+
+/// The tree of a file. Fails where the bytes are no UTF-8 or no JSON, and where memory runs out.
+pub(crate) fn tree_of(alloc: Global, source: Source<'_>) -> Result<Value, Refusal>
+    ensures ok { IfOk result (λ tree. specs.tree_of source.entry.bytes.now ≡ Some (view tree)) }
+    ensures err { IfErr result (Tells (IsTreeless source.entry.name.now source.entry.bytes.now)) }
+{
+    let text = text_of(alloc, source)?;
+    tree_of_text(alloc, source.name, text)
+}
