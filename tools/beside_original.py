@@ -77,21 +77,25 @@ def copy_to(file, place):
         shutil.copyfile(file, place)
 
 
-def built_driver(options, work):
-    """Builds the driver over the original, and gives the path of its program."""
-    folder = os.path.join(work, "driver")
-    for name in ("Cargo.toml", "src/main.rs"):
-        copy_to(os.path.join(DRIVER, name), os.path.join(folder, name))
+def built_driver(options, work, sources=DRIVER, crates=(), variables=()):
+    """Builds a driver over the original, of the sources in a folder, and gives the path of its program, which has the folder's name.
+
+    Further crates that it uses are given as pairs of a name and a folder, and what their builds read of the environment so too."""
+    name = os.path.basename(sources)
+    folder = os.path.join(work, name)
+    for file in ("Cargo.toml", "src/main.rs"):
+        copy_to(os.path.join(sources, file), os.path.join(folder, file))
     settings = []
     if options.registry:
         settings += ['source.crates-io.replace-with="folder"', 'source.folder.directory="%s"' % os.path.abspath(options.registry)]
     if options.original:
-        settings.append('patch.crates-io.utoipa.path="%s"' % os.path.abspath(put_together(options.original, os.path.join(work, "utoipa"))))
+        crates = [*crates, ("utoipa", put_together(options.original, os.path.join(work, "utoipa")))]
+    settings += ['patch.crates-io.%s.path="%s"' % (crate, os.path.abspath(place)) for crate, place in crates]
     command = ["cargo", "build", "--release", "--quiet"] + [word for it in settings for word in ("--config", it)]
-    environment = {**os.environ, "RUSTFLAGS": "--cap-lints allow"}
+    environment = {**os.environ, **dict(variables), "RUSTFLAGS": "--cap-lints allow"}
     if subprocess.run(command, cwd=folder, env=environment).returncode:
-        sys.exit("beside_original: the driver is not built")
-    return os.path.join(folder, "target", "release", "beside_original")
+        sys.exit("%s: the driver is not built" % name)
+    return os.path.join(folder, "target", "release", name)
 
 
 def answers_of_original(driver, way, asked):

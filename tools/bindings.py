@@ -1,11 +1,11 @@
 #!/usr/bin/env python3
 """Builds the library for C of crates/utoipa_c, and runs what calls it from C, C++, Rust, Python and Node.
 
-usage: tools/bindings.py [--archive FILE] [FOLDER]
+usage: tools/bindings.py [--gate | --archive FILE] [FOLDER]
 
 FOLDER takes the library, lib/libutoipa.a, lib/libutoipa.so, lib/pkgconfig/utoipa.pc and include/utoipa.h, and what is built to try it;
-where none is given, a temporary one does. The archive that the library is made of is built by `rt lib`, over the crates below it that
-./check has proved; or FILE is such an archive.
+where none is given, a temporary one does. The archive that the library is made of is built of the crate and those below it as they are,
+proved; what ./check has proved of them is taken over. With --gate the libraries that ./check has just left are taken. Or FILE is such an archive.
 
 Ends with status 1 at the first thing that is not so. A language with no compiler here is passed over, and told. Needs a C compiler, $CC or
 else cc, and ar, nm and size.
@@ -18,10 +18,14 @@ import shutil
 import subprocess
 import sys
 import tempfile
+import time
+
+import part
 
 ROOT = os.path.dirname(os.path.dirname(os.path.abspath(__file__)))
 BINDINGS = os.path.join(ROOT, "bindings")
-CRATE = os.path.join(ROOT, "crates", "utoipa_c")
+NAME = "utoipa_c"
+CRATE = os.path.join(part.CRATES, NAME)
 
 CC = os.environ.get("CC", "cc")
 CXX = os.environ.get("CXX", "c++")
@@ -29,6 +33,9 @@ CXX = os.environ.get("CXX", "c++")
 # What the archive asks of the program that it is linked into, and what the shared library offers.
 ASKS = "memcpy memmove memset rattle_alloc rattle_dealloc rattle_realloc".split()
 OFFERS = "utoipa_document utoipa_merge utoipa_nest utoipa_schema utoipa_server".split()
+
+# Where the archive is built, in the crate's folder.
+ARCHIVE = "out/libutoipa_c.a"
 
 SANITIZERS = ["-fsanitize=address,undefined", "-fno-sanitize-recover=all"]
 
@@ -57,12 +64,46 @@ def text_of(path):
 # ---- The library.
 
 
-def build_archive():
-    """Builds the archive of the proved crate, and returns its path."""
-    if not os.path.isdir(os.path.join(ROOT, "crates", "utoipa_command", "out", "rlib")):
-        sys.exit("bindings: to be proved first, by ./check: utoipa_command")
-    run(["rt", "lib"], cwd=CRATE)
-    return os.path.join(CRATE, "out", "libutoipa_c.a")
+def build_archive(room, is_gate):
+    """Builds the archive of the crate over proved libraries, and returns its path: over those that the gate has just left in the crates' folders, or
+    over those of a folder of their own, which are proved there as far as no earlier run has."""
+    if not shutil.which("rt"):
+        sys.exit("bindings: the Rattle toolchain's command 'rt' has to be on the path")
+    listed = part.crates_listed()
+    names = part.with_all_below(NAME, listed, [])
+    if is_gate and all(part.is_of_gate(it) for it in names if it != NAME):
+        crate = CRATE
+    else:
+        prove_in(room, names, listed)
+        crate = os.path.join(room, "crates", NAME)
+    began = time.time()
+    os.makedirs(os.path.join(crate, "out"), exist_ok=True)
+    run(words_of_build(listed, names), cwd=crate)
+    print("the archive: built in %s" % part.minutes(time.time() - began), flush=True)
+    return os.path.join(crate, ARCHIVE)
+
+
+def prove_in(room, names, listed):
+    """Proves the crates in a folder."""
+    log = os.path.join(room, "log")
+    part.write_part(room, names, listed)
+    with open(log, "w", encoding="utf-8") as said:
+        is_proved = part.prove(room, names, listed, said)
+    if not is_proved:
+        raise NotSo("the crates are proved:\n" + text_of(log)[-3000:])
+
+
+def words_of_build(listed, names):
+    """The command that builds the archive over the libraries which `rt ci` has made. `rt lib` would prove each of them again."""
+    kit = os.path.dirname(run(["rt", "doc"]).strip())
+    of_part = {it: "../{0}/out/rlib/{0}.rlib".format(it) for it in names}
+    words = [os.path.join(kit, "bin", "rattle"), "build", "--crate-name", NAME, "src/lib.rt", "--crate-type", "staticlib"]
+    for it in ["std", *listed[NAME].uses]:
+        words += ["--extern", "%s=%s" % (it, of_part.get(it, os.path.join(kit, "rlibs", it + ".rlib")))]
+    for folder in [os.path.join(kit, "rlibs"), *(os.path.dirname(of_part[it]) for it in names if it != NAME)]:
+        words += ["-L", "dependency=" + folder]
+    words += ["--antt-project", os.path.join(kit, "rattle", "logic", "antt-project.json"), "--logic-built", os.path.join(kit, "logic_built")]
+    return [*words, "--backend", "llvm", "--toolchain", os.path.join(kit, "toolchain"), "-o", ARCHIVE]
 
 
 def put_together(archive, folder):
@@ -236,6 +277,8 @@ def try_all(archive, folder):
 
 def main():
     words, archive = sys.argv[1:], None
+    is_gate = words[:1] == ["--gate"]
+    words = words[1:] if is_gate else words
     if len(words) > 1 and words[0] == "--archive":
         archive, words = words[1], words[2:]
     if len(words) > 1 or any(it.startswith("-") for it in words):
@@ -244,12 +287,9 @@ def main():
     if lacking:
         sys.exit("bindings: there is no " + ", no ".join(lacking))
     try:
-        archive = archive or build_archive()
-        if words:
-            try_all(archive, os.path.abspath(words[0]))
-        else:
-            with tempfile.TemporaryDirectory(prefix="utoipa-bindings-") as folder:
-                try_all(archive, folder)
+        with tempfile.TemporaryDirectory(prefix="utoipa-bindings-") as room:
+            archive = archive or build_archive(os.path.join(room, "part"), is_gate)
+            try_all(archive, os.path.abspath(words[0]) if words else room)
     except NotSo as fault:
         sys.exit("NOT SO: %s" % fault)
 
