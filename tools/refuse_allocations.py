@@ -229,7 +229,10 @@ def call_of_line(program, line, answer, told):
     """A line of a program's cases and its stored answer as a call."""
     # The program may have answered already where the reading of the next line is refused.
     outcomes = [Outcome(1, printed, CASES_END_WITH) for printed in ("", answer + "\n")]
+    told = {*told, "refused: memory"}
     outcomes += [answered(it + "\n") for it in told]
+    # A text is read by its tree and by its tokens, and one of the two may have been refused.
+    outcomes += [answered("%s, and by tokens %s\n" % it) for refused in told for it in ((refused, answer), (answer, refused))]
     return Call("%s: %s" % (program, line.replace("\t", " ")), program, [], line + "\n", answered(answer + "\n"), outcomes)
 
 
