@@ -136,23 +136,20 @@ impl<T: Empty> OpenField for DefaultedField<T> {
     }
 }
 
-/// What is read at the rows of a member table, also from tokens, in which the rows' members come in any order.
-pub trait OpenFields: RowFields {
-    /// The rows while members come: what has been read at each.
-    type Open: Drop;
-
-    ghost held: { Self.Open → Held };
+/// What has been read at the rows of a member table, while its members come in any order, and what becomes of it: the rows' fields `R`.
+pub trait OpenFields<R: RowFields>: Drop {
+    ghost held: { Self → Held };
 
     /// The rows before the first member.
-    fn begin() -> Self::Open
-        ensures held { (names : List (List ℕ)) → length names ≡ Self.count → AreHeld (Self.rows names) (held result) no_members }
+    fn begin() -> Self
+        ensures held { (names : List (List ℕ)) → length names ≡ R.count → AreHeld (R.rows names) (held result) no_members }
         ensures no_schema { held_schema_count (held result) ≡ 0 };
 
     /// Reads the member of this name, which begins with the token `first` and goes on with those that the reader has, where it is a
     /// row's, and says whether it is; of another it reads nothing. Fails as [`Tree::from_tokens`] does, and where the row's member
     /// has come before.
     fn take(
-        so_far: &mut Self::Open,
+        &mut self,
         alloc: Global,
         names: &[&'static str],
         name: &str,
@@ -161,29 +158,27 @@ pub trait OpenFields: RowFields {
         depth: usize,
         readings: &mut Readings,
     ) -> Result<bool, Unread>
-        requires { length names.now ≡ Self.count }
-        ensures taken { IfOk result (λ found. IsTrue found → Taken (Self.rows (texts names.now)) name.now (held so_far.old) (held so_far.new)
+        requires { length names.now ≡ R.count }
+        ensures taken { IfOk result (λ found. IsTrue found → Taken (R.rows (texts names.now)) name.now (held self.old) (held self.new)
             depth (token_of first.entry ∷ reader.old) reader.new readings.old readings.new) }
-        ensures other { IfOk result (λ found. found ≡ false → (is_row name.now (Self.rows (texts names.now)) ≡ false)
-            × (so_far.new ≡ so_far.old) × (reader.new ≡ reader.old) × (readings.new ≡ readings.old)) }
+        ensures other { IfOk result (λ found. found ≡ false → (is_row name.now (R.rows (texts names.now)) ≡ false)
+            × (self.new ≡ self.old) × (reader.new ≡ reader.old) × (readings.new ≡ readings.old)) }
         ensures left { OnOk result (length reader.new ≤ length reader.old) };
 
     /// The rows' fields when the last member has come. Fails where the member of a row that asks for one has not come.
-    fn close(so_far: Self::Open, alloc: Global) -> Result<Self, Unread>
-        ensures fields { IfOk result (λ v. (names : List (List ℕ)) → length names ≡ Self.count → held_fields (Self.rows names) (held so_far) ≡ Some (Self.docs v)) }
-        ensures schemas { IfOk result (λ v. docs_schema_count (Self.docs v) ≤ held_schema_count (held so_far)) };
+    fn close(self, alloc: Global) -> Result<R, Unread>
+        ensures fields { IfOk result (λ v. (names : List (List ℕ)) → length names ≡ R.count → held_fields (R.rows names) (held self) ≡ Some (R.docs v)) }
+        ensures schemas { IfOk result (λ v. docs_schema_count (R.docs v) ≤ held_schema_count (held self)) };
 }
 
 #[tactic(auto, using(crate::proofs::RowLists::by_row_list))]
-impl OpenFields for () {
-    type Open = ();
-
+impl OpenFields<()> for () {
     ghost held = { λ _. [] };
 
     fn begin() {}
 
     fn take(
-        _so_far: &mut (),
+        &mut self,
         _alloc: Global,
         _names: &[&'static str],
         _name: &str,
@@ -195,23 +190,21 @@ impl OpenFields for () {
         Ok(false)
     }
 
-    fn close(_so_far: (), _alloc: Global) -> Result<(), Unread> {
+    fn close(self, _alloc: Global) -> Result<(), Unread> {
         Ok(())
     }
 }
 
 #[tactic(auto, using(crate::proofs::RowLists::by_row_list))]
-impl<H: OpenField, R: OpenFields> OpenFields for (H, R) {
-    type Open = (Option<H>, R::Open);
+impl<H: OpenField, R: RowFields, S: OpenFields<R>> OpenFields<(H, R)> for (Option<H>, S) {
+    ghost held = { λ v. option_map H.doc v.0 ∷ S.held v.1 };
 
-    ghost held = { λ v. option_map H.doc v.0 ∷ R.held v.1 };
-
-    fn begin() -> (Option<H>, R::Open) {
-        (None, R::begin())
+    fn begin() -> (Option<H>, S) {
+        (None, S::begin())
     }
 
     fn take(
-        so_far: &mut (Option<H>, R::Open),
+        &mut self,
         alloc: Global,
         names: &[&'static str],
         name: &str,
@@ -221,32 +214,25 @@ impl<H: OpenField, R: OpenFields> OpenFields for (H, R) {
         readings: &mut Readings,
     ) -> Result<bool, Unread> {
         if name != names[0] {
-            return R::take(
-                &mut so_far.1,
-                alloc,
-                &names[1..],
-                name,
-                first,
-                reader,
-                depth,
-                readings,
-            );
+            return self
+                .1
+                .take(alloc, &names[1..], name, first, reader, depth, readings);
         }
-        if so_far.0.is_some() {
+        if self.0.is_some() {
             return Err(Unread::AsTree);
         }
         let field = H::from_tokens(alloc, first, reader, depth, readings)?;
-        so_far.0 = Some(field);
+        self.0 = Some(field);
         Ok(true)
     }
 
-    fn close(so_far: (Option<H>, R::Open), alloc: Global) -> Result<(H, R), Unread> {
-        let (held, others) = so_far;
+    fn close(self, alloc: Global) -> Result<(H, R), Unread> {
+        let (held, others) = self;
         let first = match held {
             Some(field) => field,
             None => H::absent(alloc).ok_or(Unread::AsTree)?,
         };
-        let rest = R::close(others, alloc)?;
+        let rest = others.close(alloc)?;
         Ok((first, rest))
     }
 }
@@ -256,7 +242,7 @@ impl<H: OpenField, R: OpenFields> OpenFields for (H, R) {
 ///
 /// Fails where the tokens are no such object, where the member of a row comes twice, where a number is a fraction, and where memory
 /// runs out.
-pub fn table_from_tokens<R: OpenFields>(
+pub fn table_from_tokens<S: OpenFields<R>, R: RowFields>(
     alloc: Global,
     first: Token<'_>,
     reader: &mut Reader<'_>,
@@ -276,7 +262,7 @@ pub fn table_from_tokens<R: OpenFields>(
     if depth == 0 {
         return Err(Unread::AsTree);
     }
-    let mut so_far = R::begin();
+    let mut so_far = S::begin();
     let mut extensions = BTreeMap::new(alloc);
     'members: while let Some(name) = reader.next_key()? {
         let token = reader.next().ok_or(Unread::AsTree)?;
@@ -285,21 +271,12 @@ pub fn table_from_tokens<R: OpenFields>(
             let value = next_tree(alloc, token, reader, depth - 1)?;
             drop(extensions.insert(key, value)?);
         } else {
-            let is_row = R::take(
-                &mut so_far,
-                alloc,
-                names,
-                name,
-                token,
-                reader,
-                depth - 1,
-                readings,
-            )?;
+            let is_row = so_far.take(alloc, names, name, token, reader, depth - 1, readings)?;
             if !is_row {
                 drop(next_tree(alloc, token, reader, depth - 1)?);
             }
         }
     }
-    let fields = R::close(so_far, alloc)?;
+    let fields = so_far.close(alloc)?;
     Ok((fields, extensions_if_any(extensions)))
 }

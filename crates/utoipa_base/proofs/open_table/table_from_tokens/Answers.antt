@@ -46,8 +46,8 @@ members-preserved g c =
     let key : read_key l.reader ≡ Some (Some c.in-Some.name.now, s) = grind arith in
     let first : s ≡ token_of c.in_ok-token.token ∷ c.next.new.self = grind arith in
     let less : length c.take.new.reader < length s = rw first (omega (arith, c.in_ok-is_row.ensures.left)) in
-    let one : Taken (g.R.RowFields.rows (texts c.args.names.now)) c.in-Some.name.now (g.R.OpenFields.held l.so_far) (g.R.OpenFields.held c.take.new.so_far) (c.args.depth - 1) s c.take.new.reader l.readings c.take.new.readings =
-    subst (λ ts. Taken (g.R.RowFields.rows (texts c.args.names.now)) c.in-Some.name.now (g.R.OpenFields.held l.so_far) (g.R.OpenFields.held c.take.new.so_far) (c.args.depth - 1) ts c.take.new.reader l.readings c.take.new.readings) (sym first)
+    let one : Taken (g.R.RowFields.rows (texts c.args.names.now)) c.in-Some.name.now (g.S.OpenFields.held l.so_far) (g.S.OpenFields.held c.take.new.self) (c.args.depth - 1) s c.take.new.reader l.readings c.take.new.readings =
+    subst (λ ts. Taken (g.R.RowFields.rows (texts c.args.names.now)) c.in-Some.name.now (g.S.OpenFields.held l.so_far) (g.S.OpenFields.held c.take.new.self) (c.args.depth - 1) ts c.take.new.reader l.readings c.take.new.readings) (sym first)
     (c.in_ok-is_row.ensures.taken c.if-not-is_row.false) in
     let test : is_extension c.in-Some.name.now ≡ false = sym c.is_extension_name.ensures ∙ c.if-is_extension_name.false in
     table_taken _ _ _ _ s _ _ _ _ _ _ _ _ l.invariant key less one test
