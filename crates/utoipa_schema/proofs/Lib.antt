@@ -4,6 +4,7 @@ pub mod Fewer
 pub mod Filling
 pub mod Fitting
 pub mod Groups
+pub mod LeftOut
 pub mod MemberCounts
 pub mod Noting
 pub mod SchemaCounts

@@ -14,15 +14,15 @@ use Rattle.serde_json.specs.View.{view, members_view}
 use Rattle.serde_json.specs.declared.value.Value.{Value}
 use Rattle.serde_json.proofs.Views.{Entry}
 use Rattle.utoipa_base.specs.Fields.{field}
-use Rattle.utoipa_base.specs.Kinds.{Kind, ObjectType, schema, ref_or, list_of, named, required, one_of_schema, all_of_schema, any_of_schema}
+use Rattle.utoipa_base.specs.Kinds.{Kind, ObjectType, schema, ref_or, list_of, named, required, one_of_schema, all_of_schema, any_of_schema, array_schema, array_items}
 use Rattle.utoipa_base.specs.Reading.{read}
 use Rattle.utoipa_base.specs.Tables.{row}
 use Rattle.utoipa_base.proofs.BoolFacts.{or_first, or_second}
-use Rattle.utoipa_base.proofs.ByRows.{table_refused, fields-first}
+use Rattle.utoipa_base.proofs.ByRows.{table_refused, fields-first, fields-later}
 use Rattle.utoipa_base.proofs.Members.{field_absent}
 use Rattle.utoipa_base.proofs.TableParts.{join-later}
 use Rattle.utoipa_schema.specs.Choice.{IsNoCombination}
-use Rattle.utoipa_schema.specs.Parts.{combination_rows}
+use Rattle.utoipa_schema.specs.Parts.{combination_rows, text_content_rows, array_annotation_rows}
 use Rattle.utoipa_schema.specs.Places.{InnerData, members_of, noted, found, data_of}
 use Rattle.utoipa_schema.specs.declared.inner_members.InnerMembers.{InnerMembers}
 
@@ -134,3 +134,10 @@ uncombined d m found none =
       refused_without m.all_of all_of_schema (codes "allOf") places d (ap (λ n. n.all_of) found) (or_first _ _ others) (λ h. table_refused all_of_schema d (fields-first _ _ _ h)),
       refused_without m.any_of any_of_schema (codes "anyOf") places d (ap (λ n. n.any_of) found) (or_second (is_some m.all_of) _ others) (λ h. table_refused any_of_schema d (fields-first _ _ _ h)),
     )
+
+-- ---- no array without items
+
+pub no_items : (d : Data) (m : InnerMembers) → data_of m ≡ members_of d → is_some m.items ≡ false → read (named array_schema) d ≡ None
+no_items d m found none =
+    refused_without m.items array_schema (codes "items") array_items d (ap (λ n. n.items) found) none
+    (λ h. table_refused array_schema d (join-later text_content_rows _ d (fields-later _ _ d (join-later array_annotation_rows _ d (fields-first _ _ d h)))))

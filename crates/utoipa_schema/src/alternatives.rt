@@ -211,8 +211,64 @@ fn first_combination_from(
     }
 }
 
+/// An object with a content schema that has been read, or none, of a tree that is no combination and no array. Fails where memory
+/// runs out.
+fn object_or_none_from(
+    alloc: Global,
+    tree: &Value,
+    members: &InnerMembers<'_>,
+    object: ObjectOutcomes,
+    content_schema: Option<Box<RefOr<Schema>>>,
+) -> Result<Outcome, AllocError>
+    requires found { data_of members.now ≡ members_of (view tree.now) }
+    requires inside { AreOfObject (data_of members.now) object }
+    requires no_combination { IsNoCombination (view tree.now) }
+    requires no_array { read (named array_schema) (view tree.now) ≡ None }
+    requires content { HasContent (view tree.now) content_schema }
+    ensures read { IfOk result (λ o. outcome_doc o ≡ option_map own_doc (read schema (view tree.now))) }
+    ensures counted { IfOk result (λ o. count_of (outcome_doc o)
+        ≤ 1 + (counts_of_object object + schema_count (content_schema_doc content_schema))) }
+{
+    if !may_be_object(tree) {
+        return Ok(None);
+    }
+    match if_fitting(object_from(alloc, tree, members, object))? {
+        Some(object) => {
+            let object = object_with_content_schema(object, content_schema);
+            Ok(Some(Box::new(alloc, RefOr::T(Schema::Object(object)))?))
+        }
+        None => Ok(None),
+    }
+}
+
 /// An array, or else an object, with a content schema that has been read, or none. Fails where memory runs out.
 fn array_or_object_from(
+    alloc: Global,
+    tree: &Value,
+    members: &InnerMembers<'_>,
+    array: ArrayOutcomes,
+    object: ObjectOutcomes,
+    content_schema: Option<Box<RefOr<Schema>>>,
+) -> Result<Outcome, AllocError>
+    requires found { data_of members.now ≡ members_of (view tree.now) }
+    requires array { AreOfArray (data_of members.now) array }
+    requires object { AreOfObject (data_of members.now) object }
+    requires no_combination { IsNoCombination (view tree.now) }
+    requires content { HasContent (view tree.now) content_schema }
+    ensures read { IfOk result (λ o. outcome_doc o ≡ option_map own_doc (read schema (view tree.now))) }
+    ensures counted { IfOk result (λ o. count_of (outcome_doc o)
+        ≤ 1 + (counts_of_array array + (counts_of_object object + schema_count (content_schema_doc content_schema)))) }
+{
+    if !members.has_items() {
+        return object_or_none_from(alloc, tree, members, object, content_schema);
+    }
+    array_first_from(alloc, tree, members, array, object, content_schema)
+}
+
+/// As `array_or_object_from`, with an array tried whether or not a tree has items.
+// Not inlined: no room is made for an array where a tree has no items, as most have not.
+#[inline(never)]
+fn array_first_from(
     alloc: Global,
     tree: &Value,
     members: &InnerMembers<'_>,
@@ -233,16 +289,7 @@ fn array_or_object_from(
         let array = array_with_content_schema(array, content_schema);
         return Ok(Some(Box::new(alloc, RefOr::T(Schema::Array(array)))?));
     }
-    if !may_be_object(tree) {
-        return Ok(None);
-    }
-    match if_fitting(object_from(alloc, tree, members, object))? {
-        Some(object) => {
-            let object = object_with_content_schema(object, content_schema);
-            Ok(Some(Box::new(alloc, RefOr::T(Schema::Object(object)))?))
-        }
-        None => Ok(None),
-    }
+    object_or_none_from(alloc, tree, members, object, content_schema)
 }
 
 /// A schema: the first alternative that fits, or none. Fails where memory runs out.

@@ -7,6 +7,7 @@ ghost use Rattle.utoipa_base.specs.Tables.{row};
 ghost use Rattle.utoipa_base.specs.Views.{option_of, boxed};
 ghost use Rattle.utoipa_schema.specs.Docs.{schema_doc, additional_properties_doc, array_items_doc, one_of_doc, all_of_doc, any_of_doc, array_doc, object_doc};
 
+use crate::left_out::emit_part;
 use crate::types::{AdditionalProperties, AllOf, AnyOf, Array, ArrayItems, Object, OneOf, Schema};
 use crate::without_schemas::array::{array_annotation_rows, array_end_rows, item_limit_rows};
 use crate::without_schemas::combination::combination_rows;
@@ -190,16 +191,16 @@ impl Emit for Array {
         let last_names = array_end_rows!(row_names!());
         out.begin_object()?;
         let pending = PendingExtensions::of(&self.extensions);
-        let after_content = content.emit(out, content_names, pending)?;
+        let after_content = emit_part(&content, out, content_names, pending)?;
         let after_schema = emit_optional(
             out,
             "contentSchema",
             &self.content_schema,
             after_content,
         )?;
-        let after_annotations = annotations.emit(out, annotation_names, after_schema)?;
+        let after_annotations = emit_part(&annotations, out, annotation_names, after_schema)?;
         let after_items = emit_required(out, "items", &self.items, after_annotations)?;
-        let after_limits = limits.emit(out, limit_names, after_items)?;
+        let after_limits = emit_part(&limits, out, limit_names, after_items)?;
         let after_prefix = emit_defaulted(out, "prefixItems", &self.prefix_items, after_limits)?;
         let after_last = last.emit(out, last_names, after_prefix)?;
         after_last.emit_end(out)
@@ -229,16 +230,16 @@ impl Emit for Object {
         out.begin_object()?;
         let pending = PendingExtensions::of(&self.extensions);
         let after_additional = emit_additional(self, out, pending)?;
-        let after_content = content.emit(out, content_names, after_additional)?;
+        let after_content = emit_part(&content, out, content_names, after_additional)?;
         let after_schema = emit_optional(
             out,
             "contentSchema",
             &self.content_schema,
             after_content,
         )?;
-        let after_annotations = annotations.emit(out, annotation_names, after_schema)?;
-        let after_greatest = greatest.emit(out, greatest_names, after_annotations)?;
-        let after_least = least.emit(out, least_names, after_greatest)?;
+        let after_annotations = emit_part(&annotations, out, annotation_names, after_schema)?;
+        let after_greatest = emit_part(&greatest, out, greatest_names, after_annotations)?;
+        let after_least = emit_part(&least, out, least_names, after_greatest)?;
         let after_properties = emit_defaulted(out, "properties", &self.properties, after_least)?;
         let after_property_names = emit_optional(
             out,
@@ -246,7 +247,7 @@ impl Emit for Object {
             &self.property_names,
             after_properties,
         )?;
-        let after_last = last.emit(out, last_names, after_property_names)?;
+        let after_last = emit_part(&last, out, last_names, after_property_names)?;
         after_last.emit_end(out)
     }
 }

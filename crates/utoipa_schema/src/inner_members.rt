@@ -76,4 +76,11 @@ impl<'a> InnerMembers<'a> {
     {
         self.one_of.is_some() || (self.all_of.is_some() || self.any_of.is_some())
     }
+
+    /// Whether one of the members is that of the items of an array.
+    pub(crate) fn has_items(&self) -> bool
+        ensures { result ≡ is_some self.now.items }
+    {
+        self.items.is_some()
+    }
 }

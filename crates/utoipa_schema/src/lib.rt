@@ -11,6 +11,7 @@ mod copy;
 mod emit;
 mod fill;
 mod inner_members;
+mod left_out;
 mod lists;
 mod members;
 pub mod object;

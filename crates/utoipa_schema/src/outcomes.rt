@@ -174,7 +174,9 @@ pub(crate) fn put(
     match standing {
         Standing::Alone => Ok(filled.push(Group::One(outcome))?),
         Standing::FirstInList => {
-            let group = Group::List(Some(Vec::new(alloc))).with_place(outcome)?;
+            // Most lists of schemas have one or two, and a list that grows at its first would take room for four.
+            let list = Vec::with_capacity(alloc, 2)?;
+            let group = Group::List(Some(list)).with_place(outcome)?;
             Ok(filled.push(group)?)
         }
         Standing::FirstInMap(name) => {

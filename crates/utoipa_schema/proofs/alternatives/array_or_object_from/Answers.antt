@@ -1,66 +1,11 @@
-use Rattle.std.proofs.Common.{◌≡◌, Some, Ok, option_map, ap, ◌∙◌, sym, arith, rules}
+use Rattle.std.proofs.Common.{sym, ◌∙◌, arith}
 use Rattle.serde_json.specs.View.{view}
-use Rattle.utoipa_base.specs.Docs as docs
-use Rattle.utoipa_base.specs.Docs.{own_doc}
-use Rattle.utoipa_base.specs.Kinds.{named, schema, array_schema, object_schema}
-use Rattle.utoipa_base.specs.Reading.{read}
-use Rattle.utoipa_base.specs.Refs.{ref_or_doc}
-use Rattle.utoipa_base.specs.Values.{schema_count}
-use Rattle.utoipa_base.specs.declared.refs.RefOr.TheVariants as RefOr
-use Rattle.utoipa_base.proofs.Places.{own_places}
-use Rattle.utoipa_base.proofs.Readers.{refused_if_unfit, value_is}
-use Rattle.utoipa_base.proofs.Tried.{fits_as}
-use Rattle.utoipa_schema.specs.Docs.{schema_doc, array_doc, object_doc}
-use Rattle.utoipa_schema.specs.Folds.{schema-Array, schema-Object}
-use Rattle.utoipa_schema.specs.declared.types.Schema as schemas
-use Rattle.utoipa_schema.proofs.Choices.{as_array as by_array, as_an_object, no_object, no_schema}
-use Rattle.utoipa_schema.proofs.Fewer.{single_array, single_object}
+use Rattle.utoipa_schema.proofs.Noting.{no_items}
+use Rattle.utoipa_schema.proofs.SchemaCounts.{if_ok}
 use Rattle.utoipa_schema.proofs.alternatives.array_or_object_from.Goals as goal
 
-pub returns-in-Some-clause-read : goal.returns-in-Some-clause-read
-returns-in-Some-clause-read c =
-    let is = fits_as c.array_from.result c.in-Some.array (c.in_ok-array.ensures ∙ ap Ok c.in-Some.is) in
-    let taken = c.array_with_content_schema-array.ensures in
-    let held : c.in_ok-new.field-0.value ≡ RefOr.T (schemas.Array c.array_with_content_schema-array.result) = search rules in
-    let this = by_array (view c.args.tree.now) _ c.requires.no_combination (value_is _ _ c.in-Some.array c.array_from.ensures.ok is c.args.content_schema c.requires.content) ∙ ap (λ x. Some (docs.schema_doc (array_doc x))) (sym taken) ∙ ap Some (sym (schema-Array c.array_with_content_schema-array.result)) in
-    ap (λ p. Some (ref_or_doc schema schema_doc p)) held ∙ sym (ap (option_map own_doc) this)
+pub object_or_none_from-requires-clause-no_array : goal.object_or_none_from-requires-clause-no_array
+object_or_none_from-requires-clause-no_array c = no_items (view c.args.tree.now) c.args.members.now c.requires.found (sym c.has_items.ensures ∙ c.if-not-has_items.true)
 
-pub returns-in-Some-clause-counted : goal.returns-in-Some-clause-counted
-returns-in-Some-clause-counted c =
-    let is = fits_as c.array_from.result c.in-Some.array (c.in_ok-array.ensures ∙ ap Ok c.in-Some.is) in
-    let taken = c.array_with_content_schema-array.ensures in
-    let without = value_is _ _ c.in-Some.array c.array_from.ensures.without is in
-    let counted = value_is _ _ c.in-Some.array c.array_from.ensures.counted is in
-    let held : c.in_ok-new.field-0.value ≡ RefOr.T (schemas.Array c.array_with_content_schema-array.result) = search rules in
-    omega (arith, single_array c.in-Some.array c.args.content_schema _ without counted, ap (λ x. schema_count (schema_doc (schemas.Array x))) taken, ap (λ p. schema_count (ref_or_doc schema schema_doc p)) held, own_places (schema_doc (schemas.Array c.array_with_content_schema-array.result)))
-
-pub returns-then-not-may_be_object-clause-read : goal.returns-then-not-may_be_object-clause-read
-returns-then-not-may_be_object-clause-read c =
-    let gone = refused_if_unfit (read (named array_schema) (view c.args.tree.now)) c.array_from.result c.array_from.ensures.err (c.in_ok-array.ensures ∙ ap Ok c.in_default.is) in
-    sym (ap (option_map own_doc) (no_object (view c.args.tree.now) c.requires.no_combination gone (sym c.may_be_object.ensures ∙ c.if-not-may_be_object.true)))
-
-pub returns-in_ok-new-in-Some-2-clause-read : goal.returns-in_ok-new-in-Some-2-clause-read
-returns-in_ok-new-in-Some-2-clause-read c =
-    let gone = refused_if_unfit (read (named array_schema) (view c.args.tree.now)) c.array_from.result c.array_from.ensures.err (c.in_ok-array.ensures ∙ ap Ok c.in_default.is) in
-    let is = fits_as c.object_from.result c.in-Some-2.object (c.in_ok-object.ensures ∙ ap Ok c.in-Some-2.is) in
-    let taken = c.object_with_content_schema-object.ensures in
-    let held : c.in_ok-new-in-Some-2.field-0.value ≡ RefOr.T (schemas.Object c.object_with_content_schema-object.result) = search rules in
-    let this =
-    as_an_object (view c.args.tree.now) _ c.requires.no_combination gone (sym c.may_be_object.ensures ∙ c.if-not-may_be_object.false) (value_is _ _ c.in-Some-2.object c.object_from.ensures.ok is c.args.content_schema c.requires.content)
-    ∙ ap (λ x. Some (docs.schema_doc (object_doc x))) (sym taken) ∙ ap Some (sym (schema-Object c.object_with_content_schema-object.result)) in
-    ap (λ p. Some (ref_or_doc schema schema_doc p)) held ∙ sym (ap (option_map own_doc) this)
-
-pub returns-in_ok-new-in-Some-2-clause-counted : goal.returns-in_ok-new-in-Some-2-clause-counted
-returns-in_ok-new-in-Some-2-clause-counted c =
-    let is = fits_as c.object_from.result c.in-Some-2.object (c.in_ok-object.ensures ∙ ap Ok c.in-Some-2.is) in
-    let taken = c.object_with_content_schema-object.ensures in
-    let without = value_is _ _ c.in-Some-2.object c.object_from.ensures.without is in
-    let counted = value_is _ _ c.in-Some-2.object c.object_from.ensures.counted is in
-    let held : c.in_ok-new-in-Some-2.field-0.value ≡ RefOr.T (schemas.Object c.object_with_content_schema-object.result) = search rules in
-    omega (arith, single_object c.in-Some-2.object c.args.content_schema _ without counted, ap (λ x. schema_count (schema_doc (schemas.Object x))) taken, ap (λ p. schema_count (ref_or_doc schema schema_doc p)) held, own_places (schema_doc (schemas.Object c.object_with_content_schema-object.result)))
-
-pub returns-in-None-clause-read : goal.returns-in-None-clause-read
-returns-in-None-clause-read c =
-    let gone = refused_if_unfit (read (named array_schema) (view c.args.tree.now)) c.array_from.result c.array_from.ensures.err (c.in_ok-array.ensures ∙ ap Ok c.in_default.is) in
-    let none = refused_if_unfit (read (named object_schema) (view c.args.tree.now)) c.object_from.result c.object_from.ensures.err (c.in_ok-object.ensures ∙ ap Ok c.in-None.is) in
-    sym (ap (option_map own_doc) (no_schema (view c.args.tree.now) c.requires.no_combination gone none))
+pub returns-then-not-has_items-clause-counted : goal.returns-then-not-has_items-clause-counted
+returns-then-not-has_items-clause-counted c = if_ok _ _ c.object_or_none_from.result c.object_or_none_from.ensures.counted (λ o h. omega (arith, h))
