@@ -1,6 +1,6 @@
 -- Documents in brackets, merged pair by pair.
 use Rattle.std.proofs.Common.{◌≡◌, ◌<◌, ◌≤◌, List, [], ◌∷◌, ◌++◌, length, Bool, false, ◌||◌, map, refl, sym, ap, ◌∙◌, subst, arith}
-use Rattle.std.specs.List.{AllByRecursion, list_any}
+use Rattle.std.specs.List.{list_any}
 use Rattle.std.proofs.lemmas.List.{map-append, length-append}
 use Rattle.std.proofs.lemmas.List.Folds.{list_any-append}
 use Rattle.utoipa_merging.specs.Merged.{IsMerged}
@@ -24,14 +24,6 @@ left_plain whole xs ys is h = or_first (any_fraction xs) (any_fraction ys) (sym 
 
 pub right_plain : (whole xs ys : List OpenApi) → whole ≡ xs ++ ys → any_fraction whole ≡ false → any_fraction ys ≡ false
 right_plain whole xs ys is h = or_second (any_fraction xs) (any_fraction ys) (sym (both_sides whole xs ys is) ∙ h)
-
-split_all : {X : Type 0} (P : X → Type 0) (xs ys : List X) → AllByRecursion P (xs ++ ys) → AllByRecursion P xs × AllByRecursion P ys
-split_all P [] ys h = (tt, h)
-split_all P (x ∷ xs) ys h = let r = split_all P xs ys h.1 in ((h.0, r.0), r.1)
-
--- what holds of all holds of those on the left, and of those on the right
-pub on_both : {X : Type 0} (P : X → Type 0) (whole xs ys : List X) → whole ≡ xs ++ ys → AllByRecursion P whole → AllByRecursion P xs × AllByRecursion P ys
-on_both P whole xs ys is h = split_all P xs ys (subst (AllByRecursion P) is h)
 
 pub pair_merged : (whole xs ys : List OpenApi) (a b d : OpenApi) → whole ≡ xs ++ ys → IsMerged (map openapi_doc xs) (openapi_doc a) → IsMerged (map openapi_doc ys) (openapi_doc b)
     → IsMerged (openapi_doc a ∷ openapi_doc b ∷ []) (openapi_doc d) → IsMerged (map openapi_doc whole) (openapi_doc d)

@@ -7,5 +7,6 @@ pub mod PartsOfDocuments
 pub mod PrettyTexts
 pub mod TextReadings
 pub mod FurtherTags
+pub mod KeyOrder
 pub mod NothingAdded
 pub mod TheTheorem

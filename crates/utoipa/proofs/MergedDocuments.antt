@@ -7,13 +7,12 @@ use Rattle.utoipa_base.specs.Docs.{Doc, docs_of}
 use Rattle.utoipa_base.specs.Views.{list_of_docs, option_of}
 use Rattle.utoipa_base.specs.WellFormed.{has_fraction, docs_have_fraction, IsPlain}
 use Rattle.utoipa_components.specs.Components.{components_doc}
-use Rattle.utoipa_components.specs.Filled.{AreComponentsInOrder}
 use Rattle.utoipa_leaf.specs.Server.{server_doc}
 use Rattle.utoipa_leaf.specs.Tag.{tag_doc}
 use Rattle.utoipa_leaf.specs.declared.server.Server.{Server}
 use Rattle.utoipa_leaf.specs.declared.tag.Tag.{Tag}
 use Rattle.utoipa_security.specs.Requirement.{requirement_doc}
-use Rattle.utoipa_merging.specs.Merged.{IsListMerged, ArePathsMerged, AreComponentsMerged, IsMerged, IsInKeyOrder, ArePathsInOrder}
+use Rattle.utoipa_merging.specs.Merged.{IsListMerged, ArePathsMerged, AreComponentsMerged, IsMerged}
 use Rattle.utoipa_merging.specs.Slots.{Joined, servers_joined, security_joined, tags_joined, joined_of, items_in, paths_of, components_of, fixed_members, parts}
 use Rattle.utoipa_merging.proofs.JoinedLists.{all_in, not_in_none, in_head, in_tail, in_cases, joined_is_entry}
 use Rattle.utoipa_merging.proofs.MapViews.{items_in-list}
@@ -63,9 +62,6 @@ merged_by_parts first others d fixed m = record {
   paths = subst (λ ps. ArePathsMerged ps (paths_doc d.paths)) (sym (map-map paths_of openapi_doc (first ∷ others))) m.paths;
   components = subst (λ cs. AreComponentsMerged cs (option_of components_doc d.components)) (sym (map-map components_of openapi_doc (first ∷ others))) m.components;
 }
-
-pub in_key_order : (d : OpenApi) → ArePathsInOrder (paths_doc d.paths) → AreComponentsInOrder d.components → IsInKeyOrder (openapi_doc d)
-in_key_order d paths components = record { paths = paths; components = components }
 
 -- a list that took what there was room for is merged
 pub list_taken : {X E : Type 0} (f : X → Doc) (own later given room new taken : Option (Vec X Global)) (r : Result (Option (Vec X Global)) E)

@@ -42,20 +42,6 @@ of_documents P f field documents parts is h = subst P (ap (map f) is ∙ map-map
 pub some_part : {X : Type 0} (field : OpenApi → X) (d : OpenApi) (documents : List OpenApi) (parts : List X) → parts ≡ map field (d ∷ documents) → 0 < length parts
 some_part field d documents parts is = subst (λ l. 0 < length l) (sym is) (omega arith)
 
-paths_in : (ds : List OpenApi) → AllByRecursion (λ e. IsInKeyOrder (openapi_doc e)) ds → AllByRecursion (λ p. ArePathsInOrder (paths_doc p)) (map (λ d. d.paths) ds)
-paths_in [] h = tt
-paths_in (d ∷ ds) h = (h.0.paths, paths_in ds h.1)
-
-pub all_paths_in_order : (ds : List OpenApi) (parts : List Paths) → parts ≡ map (λ d. d.paths) ds → AllByRecursion (λ e. IsInKeyOrder (openapi_doc e)) ds → AllByRecursion (λ p. ArePathsInOrder (paths_doc p)) parts
-all_paths_in_order ds parts is h = subst (AllByRecursion (λ p. ArePathsInOrder (paths_doc p))) (sym is) (paths_in ds h)
-
-components_in : (ds : List OpenApi) → AllByRecursion (λ e. IsInKeyOrder (openapi_doc e)) ds → AllByRecursion AreComponentsInOrder (map (λ d. d.components) ds)
-components_in [] h = tt
-components_in (d ∷ ds) h = (h.0.components, components_in ds h.1)
-
-pub all_components_in_order : (ds : List OpenApi) (parts : List (Option Components)) → parts ≡ map (λ d. d.components) ds → AllByRecursion (λ e. IsInKeyOrder (openapi_doc e)) ds → AllByRecursion AreComponentsInOrder parts
-all_components_in_order ds parts is h = subst (AllByRecursion AreComponentsInOrder) (sym is) (components_in ds h)
-
 -- ---- parts without fractions
 
 servers_plain : (ds : List OpenApi) → any_fraction ds ≡ false → All (λ l. IsPlain (list_doc_of server_doc l)) (map (λ d. d.servers) ds)

@@ -1,37 +1,27 @@
--- What the tree of a text is read as, and why it is refused, as of the text.
-use Rattle.std.proofs.Common.{◌≡◌, ◌↔◌, ℕ, List, Bool, true, false, Some, None, Result, Ok, Err, IfOk, IfErr, refl}
-use Rattle.std.specs.Result.{IsErrOf}
-use Rattle.serde_json.specs.Data.{Data}
-use Rattle.serde_json.specs.Read.{read as read_text}
-use Rattle.serde_json.specs.Written.{has_float}
-use Rattle.utoipa_base.specs.Faults.{Refuses}
+-- What a text is read as, and why it is refused, in the words of documents.
+use Rattle.std.proofs.Common.{List, ℕ, Result, Ok, Err, IfOk, IfErr}
 use Rattle.utoipa_base.specs.Kinds.{named, open_api_object}
-use Rattle.utoipa_base.specs.Reading.{read}
+use Rattle.utoipa_base.specs.Texts as base
 use Rattle.utoipa_base.specs.declared.fault.ReadFault.{ReadFault}
 use Rattle.utoipa_base.specs.declared.fault.ReadFault.TheVariants.{Memory, Fraction, Missing, Kind, Word, Alternative, Text}
+use Rattle.utoipa_merging.specs.Texts.{IsTextOf}
 use Rattle.utoipa.specs.OpenApi.{openapi_doc}
-use Rattle.utoipa.specs.Texts.{IsTextOf, HasNoDocument, RefusesText}
+use Rattle.utoipa.specs.Texts.{HasNoDocument, RefusesText}
 use Rattle.utoipa.specs.declared.document.OpenApi.{OpenApi}
 
--- a tree whose reading is no fault for a fraction has none
-plain_unless : (t : Data) (b : Bool) (r : Result OpenApi ReadFault) → has_float t ≡ b → (has_float t ≡ true → IsErrOf r Fraction) → (r ≡ Err Fraction → ⊥) → has_float t ≡ false
-plain_unless t true r is fraction other = absurd (other (fraction is))
-plain_unless t false r is fraction other = is
+pub text_read : (text : List ℕ) (r : Result OpenApi ReadFault) → IfOk r (λ d. base.IsTextOf (named open_api_object) (openapi_doc d) text) → IfOk r (λ d. IsTextOf (openapi_doc d) text)
+text_read text (Ok d) h = record { tree = h.tree; has = h.has; plain = h.plain; reads = h.reads }
+text_read text (Err e) h = tt
 
-pub text_read : (text : List ℕ) (t : Data) (r : Result OpenApi ReadFault) → read_text text ≡ Some t → (IsErrOf r Fraction ↔ (has_float t ≡ true)) → IfOk r (λ d. read (named open_api_object) t ≡ Some (openapi_doc d)) → IfOk r (λ d. IsTextOf (openapi_doc d) text)
-text_read text t (Ok d) has fraction ok = record { tree = t; has = has; plain = plain_unless t (has_float t) (Ok d) refl fraction.1 (λ e. cc); reads = ok }
-text_read text t (Err e) has fraction ok = tt
+no_document : (text : List ℕ) → base.HasNoDocument (named open_api_object) text → HasNoDocument text
+no_document text h = record { tree = h.tree; has = h.has; plain = h.plain; none = h.none }
 
--- a tree without fractions is no document
-no_document : (text : List ℕ) (t : Data) (r : Result OpenApi ReadFault) → read_text text ≡ Some t → (has_float t ≡ true → IsErrOf r Fraction) → (r ≡ Err Fraction → ⊥) → (has_float t ≡ false → read (named open_api_object) t ≡ None) → HasNoDocument text
-no_document text t r has fraction other none = let plain = plain_unless t (has_float t) r refl fraction other in record { tree = t; has = has; plain = plain; none = none plain }
-
-pub text_refused : (text : List ℕ) (t : Data) (r : Result OpenApi ReadFault) → read_text text ≡ Some t → (IsErrOf r Fraction ↔ (has_float t ≡ true)) → IfErr r (λ e. has_float t ≡ false → Refuses (read (named open_api_object) t) e) → IfErr r (RefusesText text)
-text_refused text t (Ok d) has fraction err = tt
-text_refused text t (Err Memory) has fraction err = tt
-text_refused text t (Err Fraction) has fraction err = record { tree = t; has = has; fraction = fraction.0 refl }
-text_refused text t (Err (Missing s)) has fraction err = no_document text t (Err (Missing s)) has fraction.1 (λ e. cc) err
-text_refused text t (Err (Kind s)) has fraction err = no_document text t (Err (Kind s)) has fraction.1 (λ e. cc) err
-text_refused text t (Err (Word s)) has fraction err = no_document text t (Err (Word s)) has fraction.1 (λ e. cc) err
-text_refused text t (Err Alternative) has fraction err = no_document text t (Err Alternative) has fraction.1 (λ e. cc) err
-text_refused text t (Err Text) has fraction err = absurd (err (plain_unless t (has_float t) (Err Text) refl fraction.1 (λ e. cc)))
+pub text_refused : (text : List ℕ) (r : Result OpenApi ReadFault) → IfErr r (base.RefusesText (named open_api_object) text) → IfErr r (RefusesText text)
+text_refused text (Ok d) h = tt
+text_refused text (Err Memory) h = tt
+text_refused text (Err Fraction) h = record { tree = h.tree; has = h.has; fraction = h.fraction }
+text_refused text (Err (Missing s)) h = no_document text h
+text_refused text (Err (Kind s)) h = no_document text h
+text_refused text (Err (Word s)) h = no_document text h
+text_refused text (Err Alternative) h = no_document text h
+text_refused text (Err Text) h = h

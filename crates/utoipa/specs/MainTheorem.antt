@@ -1,7 +1,6 @@
 -- The theorem of this library, on one page: what reading any tree, reading back any value, and merging any documents come to. The function
 -- `laws::main_theorem` proves it, of each type that is read and written, for all trees, values and documents.
-use Rattle.std.specs.Prelude.{◌≡◌, ◌≤◌, ◌<◌, ◌↔◌, List, map, true, false, Some, Result, IfOk, IfErr, IsErrOf}
-use Rattle.std.specs.List.{AllByRecursion}
+use Rattle.std.specs.Prelude.{◌≡◌, ◌≤◌, ◌<◌, ◌↔◌, List, map, true, false, Some, Result, All, IfOk, IfErr, IsErrOf}
 use Rattle.serde_json.specs.Data.{Data}
 use Rattle.serde_json.specs.Written.{has_float}
 use Rattle.utoipa_base.specs.Docs.{Doc}
@@ -42,9 +41,12 @@ pub record IsReadBack {T : Type 0} (doc : T → Doc) (value : T) (answer : Resul
 -- holds a fraction.
 pub record AreMergedToOne (documents : List OpenApi) (answer : Result OpenApi MergeFault) : Type 0 where
   pub document : IfOk answer (λ merged. IsMerged (map openapi_doc documents) (openapi_doc merged))
-  -- there is no other, where the maps stand in the order of their keys
-  pub alone : IfOk answer (λ merged. AllByRecursion (λ d. IsInKeyOrder (openapi_doc d)) documents
-      → (d : Doc) → IsMerged (map openapi_doc documents) d → IsInKeyOrder d → d ≡ openapi_doc merged)
+  -- its maps stand in the order of their keys, and no other document of which they do is one that the documents are merged to
+  pub ordered : IfOk answer (λ merged. IsInKeyOrder (openapi_doc merged))
+  pub alone : IfOk answer (λ merged. (d : Doc) → IsMerged (map openapi_doc documents) d → IsInKeyOrder d → d ≡ openapi_doc merged)
+  -- it is well-formed where they are, and in normal form where they are
+  pub well_formed : IfOk answer (λ merged. All IsWellFormed (map openapi_doc documents) → IsWellFormed (openapi_doc merged))
+  pub normal : IfOk answer (λ merged. All (λ d. normal_form d ≡ d) (map openapi_doc documents) → normal_form (openapi_doc merged) ≡ openapi_doc merged)
   pub fraction : IsErrOf answer merges_fraction ↔ (any_list_has_fraction (map openapi_doc documents) ≡ true)
   pub refusal : IsErrOf answer Composer → ⊥
 

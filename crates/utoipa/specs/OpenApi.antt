@@ -1,5 +1,5 @@
 -- The documents that describe an API.
-use Rattle.std.specs.Prelude.{◌≡◌, [], None, option_map, String, string_bytes}
+use Rattle.std.specs.Prelude.{◌≡◌, List, [], ◌∷◌, Bool, true, false, None, option_map, String, string_bytes}
 use Rattle.std.specs.declared.alloc.Global.{Global}
 use Rattle.utoipa_base.specs.Docs.{Doc, table_doc, no_docs, doc}
 use Rattle.utoipa_base.specs.Extensions.{extensions_view}
@@ -52,6 +52,10 @@ IsEmptyInfo i = (title : String Global) × (version : String Global) × (string_
 -- the document says no more than that there is one
 abbrev pub IsEmptyOpenApi : OpenApi → Type 0
 IsEmptyOpenApi d = IsEmptyInfo d.info × IsEmptyPaths d.paths × SaysNoMore d
+
+-- of the members of a document, in the order of their names, those that may be large: its components, paths and webhooks
+abbrev pub large_members : List Bool
+large_members = false ∷ false ∷ true ∷ false ∷ false ∷ false ∷ false ∷ true ∷ false ∷ false ∷ false ∷ true ∷ []
 
 -- the document, as contracts see one
 abbrev pub openapi_doc : OpenApi → Doc

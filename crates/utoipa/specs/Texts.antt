@@ -5,18 +5,10 @@ use Rattle.json.specs.Tree.{json_tokens}
 use Rattle.serde_json.specs.Data.{Data}
 use Rattle.serde_json.specs.Read.{read as read_text}
 use Rattle.serde_json.specs.Written.{outline, has_float}
-use Rattle.utoipa_base.specs.Docs.{Doc}
 use Rattle.utoipa_base.specs.Kinds.{named, open_api_object}
 use Rattle.utoipa_base.specs.Reading.{read}
 use Rattle.utoipa_base.specs.declared.fault.ReadFault.{ReadFault}
 use Rattle.utoipa_base.specs.declared.fault.ReadFault.TheVariants.{Memory, Fraction, Missing, Kind, Word, Alternative, Text}
-
--- the text has a tree without fractions, which is read as this document
-pub record IsTextOf (d : Doc) (text : List ℕ) : Type 0 where
-  pub tree : Data
-  pub has : read_text text ≡ Some tree
-  pub plain : has_float tree ≡ false
-  pub reads : read (named open_api_object) tree ≡ Some d
 
 -- the text has a tree with a fraction
 pub record HasFraction (text : List ℕ) : Type 0 where

@@ -1,6 +1,6 @@
 //! Merging any number of documents: pair by pair as brackets say, or all at once.
 ghost use Rattle.std.specs.Prelude.{◌≡◌, ◌∷◌, ◌++◌, ◌↔◌, [], List, None, Some, true, false, map, Ok, IfOk, IsErrOf, IfSome, OnOk};
-ghost use Rattle.std.specs.List.{AllByRecursion, list_any};
+ghost use Rattle.std.specs.List.{list_any};
 ghost use Rattle.std.specs.Vec.Iter.{into_iter_items};
 ghost use Rattle.utoipa_merging.specs.Merged.{IsInKeyOrder, IsMerged};
 ghost use Rattle.utoipa.specs.Merging.{lists_have_fraction, any_list_has_fraction, leaves_of, ArePartsOf, IsSameButParts, ArePartsPlain};
@@ -8,6 +8,7 @@ ghost use Rattle.utoipa.specs.OpenApi.{openapi_doc};
 ghost use Rattle.utoipa.specs.declared.merging.MergeFault.TheVariants.{Memory, Fraction, Composer};
 
 use crate::document::OpenApi;
+use crate::key_order::in_order_where_made;
 use crate::merging::{MergeFault, merged_with, or_memory};
 use std::alloc::{AllocError, Global};
 use std::mem;
@@ -29,7 +30,8 @@ pub enum Bracketing {
     Join(Box<Bracketing>, Box<Bracketing>),
 }
 
-/// Merges documents pair by pair, the inner pairs first. In all brackets the same documents give the same one.
+/// Merges documents pair by pair, the inner pairs first. In all brackets the same documents give the same one, and its maps stand in the order of
+/// their keys.
 ///
 /// Fails with `Fraction` exactly where there are at least two documents and a server or a tag of one of them holds a fraction, before
 /// anything else and without memory, and with `Memory` where memory runs out. One document is answered as it is, without memory.
@@ -40,15 +42,20 @@ pub fn merge_tree(alloc: Global, bracketing: Bracketing) -> Result<OpenApi, Merg
     ensures composer { IsErrOf result Composer → ⊥ }
     ensures one { (d : OpenApi) → leaves_of bracketing ≡ d ∷ [] → result ≡ Ok d }
     ensures ok { IfOk result (λ merged. IsMerged (map openapi_doc (leaves_of bracketing)) (openapi_doc merged)) }
-    ensures ordered { IfOk result (λ merged. AllByRecursion (λ d. IsInKeyOrder (openapi_doc d)) (leaves_of bracketing) → IsInKeyOrder (openapi_doc merged)) }
+    ensures ordered { IfOk result (λ merged. IsInKeyOrder (openapi_doc merged)) }
 {
     match bracketing {
-        Bracketing::Leaf(document) => Ok(document),
+        Bracketing::Leaf(document) => {
+            document.in_key_order();
+            Ok(document)
+        }
         joined => {
             if leaf_has_fraction(&joined) {
                 return Err(MergeFault::Fraction);
             }
-            or_memory(merge_pairs(alloc, joined))
+            let merged = or_memory(merge_pairs(alloc, joined));
+            in_order_where_made(&merged);
+            merged
         }
     }
 }
@@ -66,7 +73,6 @@ fn leaf_has_fraction(bracketing: &Bracketing) -> bool
 fn merge_pairs(alloc: Global, bracketing: Bracketing) -> Result<OpenApi, AllocError>
     requires plain { list_any lists_have_fraction (map openapi_doc (leaves_of bracketing)) ≡ false }
     ensures ok { IfOk result (λ merged. IsMerged (map openapi_doc (leaves_of bracketing)) (openapi_doc merged)) }
-    ensures ordered { IfOk result (λ merged. AllByRecursion (λ d. IsInKeyOrder (openapi_doc d)) (leaves_of bracketing) → IsInKeyOrder (openapi_doc merged)) }
 {
     match bracketing {
         Bracketing::Leaf(document) => Ok(document),
@@ -79,8 +85,8 @@ fn merge_pairs(alloc: Global, bracketing: Bracketing) -> Result<OpenApi, AllocEr
     }
 }
 
-/// Merges all documents at once, from the first to the last: each list and each map of the result is filled once. Answers none where
-/// there is no document.
+/// Merges all documents at once, from the first to the last: each list and each map of the result is filled once, and its maps stand in the
+/// order of their keys. Answers none where there is no document.
 ///
 /// Fails with `Fraction` exactly where there are at least two documents and a server or a tag of one of them holds a fraction, before
 /// anything else and without memory, and with `Memory` where memory runs out. One document is answered as it is, without memory.
@@ -91,7 +97,7 @@ pub fn merge_all(alloc: Global, documents: Vec<OpenApi>) -> Result<Option<OpenAp
     ensures one { (d : OpenApi) → documents.items ≡ d ∷ [] → result ≡ Ok (Some d) }
     ensures some { IfOk result (λ merged. merged ≡ None → documents.items ≡ []) }
     ensures ok { IfOk result (λ merged. IfSome merged (λ d. IsMerged (map openapi_doc documents.items) (openapi_doc d))) }
-    ensures ordered { IfOk result (λ merged. IfSome merged (λ d. AllByRecursion (λ e. IsInKeyOrder (openapi_doc e)) documents.items → IsInKeyOrder (openapi_doc d))) }
+    ensures ordered { IfOk result (λ merged. IfSome merged (λ d. IsInKeyOrder (openapi_doc d))) }
 {
     if documents.len() > 1 && any_has_fraction(&documents) {
         return Err(MergeFault::Fraction);
@@ -101,9 +107,12 @@ pub fn merge_all(alloc: Global, documents: Vec<OpenApi>) -> Result<Option<OpenAp
         return Ok(None);
     };
     if documents.len() == 0 {
+        first.in_key_order();
         return Ok(Some(first));
     }
-    Ok(Some(merge_behind(alloc, first, documents)?))
+    let merged = merge_behind(alloc, first, documents)?;
+    merged.in_key_order();
+    Ok(Some(merged))
 }
 
 // The first document, with the others merged into it at once.
@@ -114,7 +123,6 @@ fn merge_behind(
 ) -> Result<OpenApi, AllocError>
     requires plain { list_any lists_have_fraction (map openapi_doc (first ∷ into_iter_items others)) ≡ false }
     ensures ok { IfOk result (λ merged. IsMerged (map openapi_doc (first ∷ into_iter_items others)) (openapi_doc merged)) }
-    ensures ordered { IfOk result (λ merged. AllByRecursion (λ d. IsInKeyOrder (openapi_doc d)) (first ∷ into_iter_items others) → IsInKeyOrder (openapi_doc merged)) }
 {
     let mut parts = Parts::new(alloc);
     let mut fixed = first;
@@ -190,8 +198,6 @@ impl Parts {
         requires plain { ArePartsPlain self }
         ensures ok { IfOk result (λ merged. (documents : List OpenApi) (d : OpenApi) → ArePartsOf (d ∷ documents) self
             → IsSameButParts d fixed → IsMerged (map openapi_doc (d ∷ documents)) (openapi_doc merged)) }
-        ensures ordered { IfOk result (λ merged. (documents : List OpenApi) → ArePartsOf documents self
-            → AllByRecursion (λ e. IsInKeyOrder (openapi_doc e)) documents → IsInKeyOrder (openapi_doc merged)) }
     {
         let mut document = fixed;
         let put = self.put_merged(alloc, &mut document);
@@ -204,8 +210,6 @@ impl Parts {
         requires plain { ArePartsPlain self }
         ensures ok { OnOk result ((documents : List OpenApi) (d : OpenApi) → ArePartsOf (d ∷ documents) self → IsSameButParts d document.old
             → IsMerged (map openapi_doc (d ∷ documents)) (openapi_doc document.new)) }
-        ensures ordered { OnOk result ((documents : List OpenApi) → ArePartsOf documents self
-            → AllByRecursion (λ e. IsInKeyOrder (openapi_doc e)) documents → IsInKeyOrder (openapi_doc document.new)) }
     {
         let Parts {
             servers,

@@ -1,14 +1,29 @@
 //! The document that describes an API.
+ghost use Rattle.std.specs.Prelude.{◌≡◌, Some, IfOk, codes};
+ghost use Rattle.serde_json.specs.Data.{object, no_members, put};
+ghost use Rattle.serde_json.specs.View.{members_view};
+ghost use Rattle.utoipa_base.specs.Docs.{no_docs, doc};
 ghost use Rattle.utoipa_base.specs.Kinds.{named, open_api_object};
+ghost use Rattle.utoipa_base.specs.Reading.{read};
+ghost use Rattle.utoipa_base.specs.Values.{schema_count};
+ghost use Rattle.utoipa_base.specs.Views.{option_of};
+ghost use Rattle.utoipa_components.specs.Components.{components_doc};
+ghost use Rattle.utoipa_large_objects.specs.Members.{with_fields};
+ghost use Rattle.utoipa_paths.specs.Paths.{paths_doc};
+ghost use Rattle.utoipa.specs.OpenApi.{openapi_doc, large_members};
 
 use crate::builder::OpenApiBuilder;
-use serde_json::Value;
+use json::{Reader, Token};
+use serde_json::{Map, Value};
 use std::alloc::{AllocError, Global};
+use std::mem;
+use utoipa_base::table::{OptionalField, RequiredField};
 use utoipa_base::{
-    Documented, Emit, Extensions, JsonSink, Place, ReadFault, Readings, Tree, clone_table,
-    emit_table, from_fields, read_table, row_names, row_values,
+    Documented, Emit, Extensions, JsonSink, Place, ReadFault, Readings, Tree, Unread, beside,
+    clone_table, emit_table, from_fields, read_table, row_names, row_values,
 };
 use utoipa_components::Components;
+use utoipa_large_objects::members_from_tokens;
 use utoipa_leaf::external_docs::ExternalDocs;
 use utoipa_leaf::info::Info;
 use utoipa_leaf::server::Server;
@@ -102,9 +117,13 @@ impl OpenApi {
     }
 }
 
-impl Documented for OpenApi {
-    ghost use Rattle.utoipa.specs.OpenApi.{openapi_doc};
+// What is read one by one of a document: its components, its paths and its webhooks.
+type LargeParts = (
+    OptionalField<Components>,
+    (RequiredField<Paths>, (OptionalField<Paths>, ())),
+);
 
+impl Documented for OpenApi {
     ghost kind = { named open_api_object };
 
     ghost doc = { openapi_doc };
@@ -135,9 +154,67 @@ impl Tree for OpenApi {
         Ok(document_rows!(from_fields!(OpenApi, fields, extensions)))
     }
 
+    // The parts that may be large are read one by one, and all else from a tree.
+    fn from_tokens(
+        alloc: Global,
+        first: Token<'_>,
+        reader: &mut Reader<'_>,
+        depth: usize,
+        readings: &mut Readings,
+    ) -> Result<OpenApi, Unread> {
+        let (large, others) = members_from_tokens::<(Option<_>, (Option<_>, (Option<_>, ()))), _>(
+            alloc,
+            first,
+            reader,
+            depth,
+            &["components", "paths", "webhooks"],
+            readings,
+        )?;
+        let (large, rest) = beside(large, of_others(alloc, others))?;
+        Ok(with_large(rest, large))
+    }
+
     fn try_clone(&self, alloc: Global) -> Result<OpenApi, AllocError> {
         document_rows!(clone_table!(OpenApi, self, alloc))
     }
+}
+
+// The document that an object of these members is, and of no paths. Fails as reading its tree does, and where a schema is read.
+fn of_others(alloc: Global, others: Map<String, Value>) -> Result<OpenApi, Unread>
+    ensures read { IfOk result (λ v. read (named open_api_object) (object (put (codes "paths") (object no_members) (members_view others.entries))) ≡ Some (openapi_doc v)) }
+    ensures no_schema { IfOk result (λ v. schema_count (openapi_doc v) ≡ 0) }
+{
+    let mut members = others;
+    let paths = String::from_str(alloc, "paths")?;
+    drop(members.insert(paths, Value::Object(Map::new(alloc)))?);
+    let tree = Value::Object(members);
+    let mut readings = Readings::new();
+    let rest = OpenApi::read_plain(alloc, &tree, &mut readings)?;
+    if_uncounted(rest, &readings)
+}
+
+// The value, if nothing was counted.
+fn if_uncounted<T: Drop>(value: T, readings: &Readings) -> Result<T, Unread>
+    ensures { IfOk result (λ v. (v ≡ value) × (readings.now ≡ 0)) }
+{
+    if readings.number() > 0 {
+        return Err(Unread::AsTree);
+    }
+    Ok(value)
+}
+
+// The document with these parts in place of its own.
+fn with_large(rest: OpenApi, large: LargeParts) -> OpenApi
+    ensures { openapi_doc result ≡ with_fields large_members
+        (doc (option_of components_doc large.0.0) (doc (paths_doc large.1.0.0) (doc (option_of paths_doc large.1.1.0.0) no_docs)))
+        (openapi_doc rest) }
+{
+    let mut document = rest;
+    let (OptionalField(components), (RequiredField(paths), (OptionalField(webhooks), ()))) = large;
+    drop(mem::replace(&mut document.components, components));
+    drop(mem::replace(&mut document.paths, paths));
+    drop(mem::replace(&mut document.webhooks, webhooks));
+    document
 }
 
 impl Place for OpenApi {

@@ -5,6 +5,7 @@
 mod bracketing;
 mod builder;
 mod document;
+mod key_order;
 pub mod laws;
 mod merging;
 mod nesting;
@@ -15,7 +16,9 @@ mod traits;
 
 pub use tags::{openapi_of, operation_of};
 pub use traits::{Modify, OpenApi};
-pub use utoipa_base::{Counted, Number, Place, ReadFault, Readings, Tree, has_fraction, same_tree};
+pub use utoipa_base::{
+    Counted, Number, Place, ReadFault, Readings, Tree, Unread, has_fraction, same_tree,
+};
 pub use utoipa_compose::{ComposeFault, PartialSchema, ToSchema, TupleUnit, schema_of};
 pub use utoipa_operation_parts::{IntoParams, IntoResponses, ToResponse};
 pub use utoipa_paths::Path;

@@ -64,12 +64,13 @@ impl OpenApi {
         ensures composer { IsErrOf result Composer → ⊥ }
         ensures ok { OnOk result (IsMerged (openapi_doc self.old ∷ openapi_doc other ∷ []) (openapi_doc self.new)) }
         ensures err { OnErr result (openapi_doc self.new ≡ openapi_doc self.old) }
-        ensures ordered { IsInKeyOrder (openapi_doc self.old) → IsInKeyOrder (openapi_doc other) → IsInKeyOrder (openapi_doc self.new) }
+        ensures ordered { IsInKeyOrder (openapi_doc self.old) → IsInKeyOrder (openapi_doc self.new) }
     {
         if self.lists_have_fraction() || other.lists_have_fraction() {
             drop(other);
             return Err(MergeFault::Fraction);
         }
+        other.in_key_order();
         self.merge_plain(alloc, other)?;
         Ok(())
     }
@@ -79,7 +80,7 @@ impl OpenApi {
         ensures fraction { IsErrOf result Fraction ↔ ((lists_have_fraction (openapi_doc self) || lists_have_fraction (openapi_doc other)) ≡ true) }
         ensures composer { IsErrOf result Composer → ⊥ }
         ensures ok { IfOk result (λ merged. IsMerged (openapi_doc self ∷ openapi_doc other ∷ []) (openapi_doc merged)) }
-        ensures ordered { IfOk result (λ merged. IsInKeyOrder (openapi_doc self) → IsInKeyOrder (openapi_doc other) → IsInKeyOrder (openapi_doc merged)) }
+        ensures ordered { IfOk result (λ merged. IsInKeyOrder (openapi_doc self) → IsInKeyOrder (openapi_doc merged)) }
     {
         let mut merged = self;
         let done = merged.merge(alloc, other);

@@ -30,7 +30,7 @@ impl OpenApi {
         ensures fraction { IsErrOf result Fraction ↔ ((lists_have_fraction (openapi_doc self) || lists_have_fraction (openapi_doc other)) ≡ true) }
         ensures composer { IsErrOf result Composer → ⊥ }
         ensures ok { IfOk result (λ nested. IsNested (map (λ path. base.now ++ path) (keys_of (entries_in (paths_of (openapi_doc other))))) (openapi_doc self) (openapi_doc other) (openapi_doc nested)) }
-        ensures ordered { IfOk result (λ nested. IsInKeyOrder (openapi_doc self) → IsInKeyOrder (openapi_doc other) → IsInKeyOrder (openapi_doc nested)) }
+        ensures ordered { IfOk result (λ nested. IsInKeyOrder (openapi_doc self) → IsInKeyOrder (openapi_doc nested)) }
     {
         let behind = |base: &str, path: &str| joined(alloc, base, path);
         match self.nest_with_path_composer(alloc, base, other, behind) {
@@ -56,8 +56,9 @@ impl OpenApi {
         ensures ok { IfOk result (λ nested. (answers : List (List ℕ))
             × MayAnswerEach F.Fn composer base.now (keys_of (entries_in (paths_of (openapi_doc other)))) answers
             × IsNested answers (openapi_doc self) (openapi_doc other) (openapi_doc nested)) }
-        ensures ordered { IfOk result (λ nested. IsInKeyOrder (openapi_doc self) → IsInKeyOrder (openapi_doc other) → IsInKeyOrder (openapi_doc nested)) }
+        ensures ordered { IfOk result (λ nested. IsInKeyOrder (openapi_doc self) → IsInKeyOrder (openapi_doc nested)) }
     {
+        other.in_key_order();
         let mut document = self;
         let mut other = other;
         let mounted = mount_paths(&mut document, alloc, base, &mut other, &composer);

@@ -2,21 +2,21 @@
 ghost use Rattle.std.specs.Prelude.{◌≡◌, ◌≤◌, Some, false, IfOk, IfErr, string_bytes};
 ghost use Rattle.serde_json.specs.Data.{depth};
 ghost use Rattle.serde_json.specs.Read.{read as read_text, max_depth};
-ghost use Rattle.serde_json.specs.View.{view};
 ghost use Rattle.serde_json.specs.Written.{has_float, compact_text};
 ghost use Rattle.utoipa_base.specs.Writing.{write};
+ghost use Rattle.utoipa_merging.specs.Texts.{IsTextOf};
 ghost use Rattle.utoipa.specs.OpenApi.{openapi_doc};
-ghost use Rattle.utoipa.specs.Texts.{pretty_text, IsTextOf, RefusesText};
+ghost use Rattle.utoipa.specs.Texts.{pretty_text, RefusesText};
 
 use crate::document::OpenApi;
 use json::Writer;
-use serde_json::Value;
 use std::alloc::{AllocError, Global};
 use utoipa_base::{Emit, ReadFault, Tree};
 
 impl OpenApi {
     /// The document of a JSON text.
     ///
+    /// It is read from the text's tokens, and where these are not enough from the text's tree: a text that is refused is read twice.
     /// Fails with `Text` exactly where the text is no JSON, with `Fraction` exactly where a number of it is neither an `i64` nor a
     /// `u64`, and else as [`Tree::from_value`] does of the text's tree; with `Memory`, which says nothing of the text, where memory
     /// runs out.
@@ -24,8 +24,7 @@ impl OpenApi {
         ensures ok { IfOk result (λ document. IsTextOf (openapi_doc document) text.now) }
         ensures err { IfErr result (RefusesText text.now) }
     {
-        let tree = tree_of(alloc, text)?;
-        OpenApi::from_value(alloc, &tree)
+        OpenApi::from_json_text(alloc, text)
     }
 
     /// The document as JSON in compact form, the members of each object in the order of their names.
@@ -52,17 +51,5 @@ impl OpenApi {
             → read_text (string_bytes text) ≡ Some (write (openapi_doc self.now))) }
     {
         self.to_value(alloc)?.to_string_pretty(alloc)
-    }
-}
-
-// The tree of a text. Fails with `Text` where there is none, and with `Memory` where memory runs out.
-fn tree_of(alloc: Global, text: &str) -> Result<Value, ReadFault>
-    ensures ok { IfOk result (λ tree. read_text text.now ≡ Some (view tree)) }
-    ensures err { IfErr result (RefusesText text.now) }
-{
-    match Value::from_str(alloc, text) {
-        Ok(tree) => Ok(tree),
-        Err(error) if error.is_memory() => Err(ReadFault::Memory),
-        Err(_) => Err(ReadFault::Text),
     }
 }

@@ -1,5 +1,5 @@
 -- The documents of components, and what their calls come to.
-use Rattle.std.specs.Prelude.{◌≡◌, [], None, option_map, String}
+use Rattle.std.specs.Prelude.{◌≡◌, List, [], ◌∷◌, Bool, true, false, None, option_map, String}
 use Rattle.std.specs.BTreeMap.{BTreeMap}
 use Rattle.std.specs.declared.alloc.Global.{Global}
 use Rattle.utoipa_base.specs.Docs.{Doc, table_doc, no_docs, doc}
@@ -85,6 +85,10 @@ components_doc c =
     (doc (places_doc schema schema_doc c.schemas)
     (doc (places_doc security_scheme scheme_doc c.security_schemes) no_docs)))))))))))
     (option_map extensions_view c.extensions)
+
+-- of the rows of components, in their order, the one of the schemas
+abbrev pub schemas_alone : List Bool
+schemas_alone = false ∷ false ∷ false ∷ false ∷ false ∷ false ∷ false ∷ false ∷ false ∷ true ∷ false ∷ []
 
 -- why such values are of their kind
 places_of_kind : {X : Type 0} (f : X → Doc) (k : Kind) → ((x : X) → IsOf (f x) (value_of k)) → (m : PlacesByName X) → IsOf (places_doc k f m) (value_of (map_of (ref_or k)))

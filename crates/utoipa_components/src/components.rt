@@ -1,21 +1,34 @@
 //! Components: the objects of a document that its other parts refer to.
-ghost use Rattle.std.specs.Prelude.{OnOk, OnErr, string_cmp};
+ghost use Rattle.std.specs.Prelude.{◌≡◌, OnOk, OnErr, string_cmp};
 ghost use Rattle.std.specs.BTreeMap.{insert_entry};
 ghost use Rattle.std.specs.Iterator.{IsFinite, Drains};
+ghost use Rattle.serde_json.specs.Data.{object};
+ghost use Rattle.serde_json.specs.View.{members_view};
+ghost use Rattle.utoipa_base.specs.Docs.{no_docs, doc};
 ghost use Rattle.utoipa_base.specs.Fill.{Pairs, put_each};
-ghost use Rattle.utoipa_base.specs.Kinds.{named, components_object};
+ghost use Rattle.utoipa_base.specs.Kinds.{named, schema, components_object};
+ghost use Rattle.utoipa_base.specs.Reading.{read};
+ghost use Rattle.utoipa_base.specs.Reads.{Reads};
+ghost use Rattle.utoipa_base.specs.Values.{values};
 ghost use Rattle.utoipa_base.specs.declared.refs.RefOr.{RefOr};
-ghost use Rattle.utoipa_components.specs.Components.{components_doc, components_of_kind, built_components, AreEmptyComponents, HoldSchemes};
+ghost use Rattle.utoipa_components.specs.Components.{components_doc, components_of_kind, places_doc, schemas_alone, built_components, AreEmptyComponents, HoldSchemes};
+ghost use Rattle.utoipa_large_objects.specs.Members.{with_fields};
+ghost use Rattle.utoipa_schema.specs.Docs.{schema_doc};
 ghost use Rattle.utoipa_security.specs.declared.security.scheme.SecurityScheme.{SecurityScheme};
 
 use crate::builder::ComponentsBuilder;
-use serde_json::Value;
+use json::{Reader, Token};
+use serde_json::{Map, Value};
 use std::alloc::{AllocError, Global};
 use std::collections::BTreeMap;
+use std::mem;
+use utoipa_base::table::DefaultedField;
 use utoipa_base::{
-    Documented, Emit, Extensions, JsonSink, Place, ReadFault, Readings, RefOr, Tree, clone_table,
-    emit_table, from_fields, put_all, put_each, read_table, row_names, row_values,
+    Documented, Emit, Extensions, JsonSink, Place, ReadFault, Readings, RefOr, Tree, Unread,
+    beside, clone_table, emit_table, from_fields, put_all, put_each, read_table, row_names,
+    row_values,
 };
+use utoipa_large_objects::members_from_tokens;
 use utoipa_leaf::example::Example;
 use utoipa_media::content::Content;
 use utoipa_media::header::Header;
@@ -166,9 +179,55 @@ impl Tree for Components {
         Ok(components_rows!(from_fields!(Components, fields, extensions)))
     }
 
+    // The schemas, by far the most of components, are read one by one, and all else from a tree.
+    fn from_tokens(
+        alloc: Global,
+        first: Token<'_>,
+        reader: &mut Reader<'_>,
+        depth: usize,
+        readings: &mut Readings,
+    ) -> Result<Components, Unread> {
+        let (large, others) = members_from_tokens::<(Option<_>, ()), _>(
+            alloc,
+            first,
+            reader,
+            depth,
+            &["schemas"],
+            readings,
+        )?;
+        let (large, rest) = beside(large, of_members(alloc, others, readings))?;
+        Ok(with_schemas(rest, large))
+    }
+
     fn try_clone(&self, alloc: Global) -> Result<Components, AllocError> {
         components_rows!(clone_table!(Components, self, alloc))
     }
+}
+
+// The components that an object of these members is. Fails as reading its tree does.
+fn of_members(
+    alloc: Global,
+    members: Map<String, Value>,
+    readings: &mut Readings,
+) -> Result<Components, ReadFault>
+    ensures { Reads (read (named components_object) (object (members_view members.entries))) components_doc result
+        readings.old readings.new (values (object (members_view members.entries))) }
+{
+    let tree = Value::Object(members);
+    Components::read_plain(alloc, &tree, readings)
+}
+
+// The components with these schemas in place of theirs.
+fn with_schemas(
+    rest: Components,
+    large: (DefaultedField<BTreeMap<String, RefOr<Schema>>>, ()),
+) -> Components
+    ensures { components_doc result ≡ with_fields schemas_alone (doc (places_doc schema schema_doc large.0.0) no_docs) (components_doc rest) }
+{
+    let mut components = rest;
+    let (DefaultedField(schemas), ()) = large;
+    drop(mem::replace(&mut components.schemas, schemas));
+    components
 }
 
 impl Place for Components {

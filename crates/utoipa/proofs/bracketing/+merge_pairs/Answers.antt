@@ -1,10 +1,9 @@
 use Rattle.std.proofs.Common.{◌++◌, map, ap, sym, subst, ◌∙◌, arith}
-use Rattle.std.specs.List.{AllByRecursion}
 use Rattle.std.proofs.lemmas.Result.{IfOk-weaker}
-use Rattle.utoipa_merging.specs.Merged.{IsInKeyOrder, IsMerged}
+use Rattle.utoipa_merging.specs.Merged.{IsMerged}
 use Rattle.utoipa.specs.Merging.{leaves_of}
 use Rattle.utoipa.specs.OpenApi.{openapi_doc}
-use Rattle.utoipa.proofs.Bracketed.{left_fewer, right_fewer, right_plain, left_plain, on_both, pair_merged, leaf_merged}
+use Rattle.utoipa.proofs.Bracketed.{left_fewer, right_fewer, right_plain, left_plain, pair_merged, leaf_merged}
 use Rattle.utoipa.proofs.MadeBeside.{made_is}
 use Rattle.utoipa.proofs.MergedDocuments.{merged_plain}
 use Rattle.utoipa.proofs.bracketing.+merge_pairs.Goals as goal
@@ -45,16 +44,3 @@ returns-in_ok-merged-in-Join-2-clause-ok t c =
     let merged = subst (λ d. IsMerged (map openapi_doc left) (openapi_doc d)) (sym kept.0) c.in_ok-merged-in-Join.ensures.ok in
     let later = made_is (λ d. IsMerged (map openapi_doc right) (openapi_doc d)) c.merge_pairs-later.result _ c.merge_pairs-later.ensures.ok kept.1 in
     IfOk-weaker c.merged_with.result _ _ (λ d h. pair_merged (leaves_of c.args.bracketing) left right c.in_ok-merged-in-Join-2.merged c.in_ok-merged-in-Join-2.later d both merged later h) c.merged_with.ensures.ok
-
-pub returns-in_ok-merged-in-Join-2-clause-ordered : goal.returns-in_ok-merged-in-Join-2-clause-ordered
-returns-in_ok-merged-in-Join-2-clause-ordered t c =
-    let both = ap leaves_of c.in-Join.is ∙ (λ i. leaves_of (sym c.into_inner.ensures i) ++ leaves_of (sym c.into_inner-in-Join.ensures i)) in
-    let left = leaves_of c.into_inner.result in
-    let right = leaves_of c.into_inner-in-Join.result in
-    let kept = c.in_ok-merged-in-Join-2.ensures.ok in
-    let later = made_is (λ d. AllByRecursion (λ e. IsInKeyOrder (openapi_doc e)) right → IsInKeyOrder (openapi_doc d)) c.merge_pairs-later.result _ c.merge_pairs-later.ensures.ordered kept.1 in
-    IfOk-weaker c.merged_with.result _ _
-    (λ d h. λ all.
-    let sides = on_both (λ e. IsInKeyOrder (openapi_doc e)) (leaves_of c.args.bracketing) left right both all in
-    h (subst (λ e. IsInKeyOrder (openapi_doc e)) (sym kept.0) (c.in_ok-merged-in-Join.ensures.ordered sides.0)) (later sides.1))
-    c.merged_with.ensures.ordered

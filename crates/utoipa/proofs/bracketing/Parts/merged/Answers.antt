@@ -1,6 +1,5 @@
 use Rattle.std.proofs.Common.{◌∷◌, map, List, sym, subst}
-use Rattle.std.specs.List.{AllByRecursion}
-use Rattle.utoipa_merging.specs.Merged.{IsInKeyOrder, IsMerged}
+use Rattle.utoipa_merging.specs.Merged.{IsMerged}
 use Rattle.utoipa.specs.Merging.{ArePartsOf, IsSameButParts}
 use Rattle.utoipa.specs.OpenApi.{openapi_doc}
 use Rattle.utoipa.specs.declared.document.OpenApi.{OpenApi}
@@ -15,10 +14,3 @@ returns-clause-ok c = λ documents first parts same.
     (holds_where_made
     ((ds : List OpenApi) (d : OpenApi) → ArePartsOf (d ∷ ds) c.args.self → IsSameButParts d c.args.fixed → IsMerged (map openapi_doc (d ∷ ds)) (openapi_doc put.new.document))
     put.result _ put.ensures.ok kept.1 documents first parts same)
-
-pub returns-clause-ordered : goal.returns-clause-ordered
-returns-clause-ordered c = λ documents parts all.
-    let kept = c.in_ok-document.ensures.ok in
-    let put = c.put_merged-put in
-    subst (λ d. IsInKeyOrder (openapi_doc d)) (sym kept.0)
-    (holds_where_made ((ds : List OpenApi) → ArePartsOf ds c.args.self → AllByRecursion (λ e. IsInKeyOrder (openapi_doc e)) ds → IsInKeyOrder (openapi_doc put.new.document)) put.result _ put.ensures.ordered kept.1 documents parts all)

@@ -1,17 +1,15 @@
 use Rattle.std.proofs.Common.{◌∷◌, ◌<◌, length, map}
-use Rattle.std.specs.List.{AllByRecursion}
 use Rattle.std.proofs.lemmas.Result.{on_ok_weaker}
 use Rattle.utoipa_base.specs.Views.{option_of}
 use Rattle.utoipa_components.specs.Components.{components_doc}
-use Rattle.utoipa_components.specs.Filled.{AreComponentsInOrder}
 use Rattle.utoipa_leaf.specs.Server.{server_doc}
 use Rattle.utoipa_leaf.specs.Tag.{tag_doc}
-use Rattle.utoipa_merging.specs.Merged.{IsListMerged, ArePathsMerged, ArePathsInOrder, AreComponentsMerged}
+use Rattle.utoipa_merging.specs.Merged.{IsListMerged, ArePathsMerged, AreComponentsMerged}
 use Rattle.utoipa_paths.specs.Paths.{paths_doc}
 use Rattle.utoipa_security.specs.Requirement.{requirement_doc}
 use Rattle.utoipa.proofs.MadeBeside.{made_is}
-use Rattle.utoipa.proofs.MergedDocuments.{list_doc_of, merged_by_parts, in_key_order}
-use Rattle.utoipa.proofs.PartsOfDocuments.{all_requirements_plain, of_documents, some_part, all_paths_in_order, all_components_in_order}
+use Rattle.utoipa.proofs.MergedDocuments.{list_doc_of, merged_by_parts}
+use Rattle.utoipa.proofs.PartsOfDocuments.{all_requirements_plain, of_documents, some_part}
 use Rattle.utoipa.proofs.bracketing.Parts.put_merged.Goals as goal
 
 pub join_lists-requires-2 : goal.join_lists-requires-2
@@ -43,22 +41,4 @@ returns-clause-ok c =
       components = of_documents (λ cs. AreComponentsMerged cs (option_of components_doc merged.components)) (option_of components_doc) (λ d. d.components) (first ∷ documents) all.components.items parts.components
           (components (some_part (λ d. d.components) first documents all.components.items parts.components));
     }))
-    c.set-5.ensures.ok
-
-pub returns-clause-ordered : goal.returns-clause-ordered
-returns-clause-ordered c =
-    let all = c.args.self in
-    let merged = record c.args.document.now {
-      servers = c.set.new.field;
-      security = c.set-2.new.field;
-      tags = c.set-3.new.field;
-      paths = c.set-4.new.field;
-      components = c.set-5.new.field;
-    } in
-    let paths =
-    made_is (λ v. AllByRecursion (λ p. ArePathsInOrder (paths_doc p)) all.paths.items → ArePathsInOrder (paths_doc v)) c.merge_paths.result merged.paths c.merge_paths.ensures.ordered c.in_ok-set-4.ensures.ok in
-    on_ok_weaker c.set-5.result
-    (λ made. λ documents parts each.
-    let components = made_is (λ v. AllByRecursion AreComponentsInOrder all.components.items → AreComponentsInOrder v) c.merge_components.result merged.components c.merge_components.ensures.ordered made in
-    in_key_order merged (paths (all_paths_in_order documents all.paths.items parts.paths each)) (components (all_components_in_order documents all.components.items parts.components each)))
     c.set-5.ensures.ok

@@ -73,8 +73,8 @@ returns-clause-ordered g c =
     let items =
     holds_where_made (AreItemsInOrder own.paths.paths → AreItemsInOrder other.paths.paths → AreItemsInOrder put.new.document.paths.paths) put.result _ put.ensures.ordered kept.1 in
     IfOk-weaker c.or_memory.result _ _
-    (λ nested is. λ before later.
-    let both = in_order_where_mounted m.0 own put.new.document other put.new.other m.2 items before later in
+    (λ nested is. λ before.
+    let both = in_order_where_mounted m.0 own put.new.document other put.new.other m.2 items before c.in_key_order.ensures in
     let ordered =
     made_is (λ d. IsInKeyOrder (openapi_doc c.in_ok-document.document) → IsInKeyOrder (openapi_doc c.in_ok-document.other) → IsInKeyOrder (openapi_doc d)) c.merged_with.result nested c.merged_with.ensures.ordered is in
     ordered (subst (λ d. IsInKeyOrder (openapi_doc d)) (ap (λ b. b.0) (sym kept.0)) both.0) (subst (λ d. IsInKeyOrder (openapi_doc d)) (ap (λ b. b.1) (sym kept.0)) both.1))
