@@ -127,20 +127,14 @@ pub count_refused : {D : Type 0} (f : D → Doc) (base : List ℕ) (t : Data) (v
 count_refused f base t v plain reads other =
     (plain, (list_of_docs f v, reads, λ two. other (sym (length-map v.items f) ∙ sym (ap length (listed (map f v.items))) ∙ two)))
 
--- what holds of each document holds of each value that stands for one
-pub of_each : {D : Type 0} (P : Doc → Type 0) (f : D → Doc) (xs : List D) → AllByRecursion P (map f xs) → AllByRecursion (λ x. P (f x)) xs
-of_each P f [] h = tt
-of_each P f (x ∷ xs) h = (h.0, of_each P f xs h.1)
-
 pub if_ok : {T E : Type 0} (P Q : T → Type 0) (r : Result T E) → IfOk r P → ((v : T) → P v → Q v) → IfOk r Q
 if_ok P Q (Ok v) h g = g v h
 if_ok P Q (Err e) h g = tt
 
-pub answers_merged : (t : Data) (ds : List Doc) (d : Doc) (line : List ℕ) → has_float t ≡ false → IsSorted t
-    → read (list_of document_kind) t ≡ Some (list_doc (docs_of ds)) → IsMerged ds d → (AllByRecursion IsInKeyOrder ds → IsInKeyOrder d)
+pub answers_merged : (t : Data) (ds : List Doc) (d : Doc) (line : List ℕ) → has_float t ≡ false
+    → read (list_of document_kind) t ≡ Some (list_doc (docs_of ds)) → IsMerged ds d → IsInKeyOrder d
     → (has_float (write d) ≡ false → line ≡ line_of (write d)) → IsAnswerToTree merge t line
-answers_merged t ds d line h s e m ordered printed =
-    let order = ordered (in_order t ds s e) in
+answers_merged t ds d line h e m order printed =
     record {
       plain = h;
       input = list_doc (docs_of ds);
@@ -152,12 +146,12 @@ answers_merged t ds d line h s e m ordered printed =
 
 pub answers_nested : (base : List ℕ) (t : Data) (own nested d : Doc) (line : List ℕ) → has_float t ≡ false → IsSorted t
     → read (list_of document_kind) t ≡ Some (list_doc (docs_of (own ∷ nested ∷ []))) → IsOpenApi own → IsOpenApi nested
-    → IsNested (behind base nested) own nested d → (IsInKeyOrder own → IsInKeyOrder nested → IsInKeyOrder d)
+    → IsNested (behind base nested) own nested d → (IsInKeyOrder own → IsInKeyOrder d)
     → (has_float (write d) ≡ false → line ≡ line_of (write d)) → IsAnswerToTree (nest base) t line
 answers_nested base t own nested d line h s e p q m ordered printed =
     let both = in_order t (own ∷ nested ∷ []) s e in
     let plain = all_plain t (own ∷ nested ∷ []) h e in
-    let order = ordered both.0 both.1.0 in
+    let order = ordered both.0 in
     record {
       plain = h;
       input = list_doc (docs_of (own ∷ nested ∷ []));

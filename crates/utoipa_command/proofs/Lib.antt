@@ -4,3 +4,4 @@ pub mod Told
 pub mod Served
 pub mod Documents
 pub mod Counts
+pub mod TextsRead

@@ -165,3 +165,34 @@ pub record IsRewritten (k : Kind) (t : Data) (line : List ℕ) : Type 0 where
   pub document : Doc
   pub reads : read k t ≡ Some document
   pub text : line ≡ line_of (write document)
+
+-- ---- for private clauses: a text that is read as a document of a kind
+
+-- the bytes have a plain tree, which is read as this document of the kind
+pub record IsReadAs (k : Kind) (bytes : List ℕ) (d : Doc) : Type 0 where
+  pub tree : Data
+  pub has : tree_of bytes ≡ Some tree
+  pub plain : has_float tree ≡ false
+  pub reads : read k tree ≡ Some d
+
+-- the bytes have a plain tree that is no document of the kind
+abbrev pub IsOtherText : Kind → List ℕ → Type 0
+IsOtherText k bytes = (t : Data) × (tree_of bytes ≡ Some t) × (has_float t ≡ false) × (read k t ≡ None)
+
+-- why bytes are refused so that are to be a document of the kind
+abbrev pub IsCauseOfText : Kind → List ℕ → Refusal → Type 0
+IsCauseOfText k bytes Memory = Unit {0}
+IsCauseOfText k bytes Read = ⊥
+IsCauseOfText k bytes Write = ⊥
+IsCauseOfText k bytes Text = HasNoTree bytes
+IsCauseOfText k bytes Fraction = HasFraction bytes
+IsCauseOfText k bytes Missing = IsOtherText k bytes
+IsCauseOfText k bytes NoKind = IsOtherText k bytes
+IsCauseOfText k bytes Word = IsOtherText k bytes
+IsCauseOfText k bytes Alternative = IsOtherText k bytes
+IsCauseOfText k bytes Empty = ⊥
+IsCauseOfText k bytes Count = ⊥
+
+-- the line is that of the document of the kind that the bytes are
+abbrev pub IsTextRewritten : Kind → List ℕ → List ℕ → Type 0
+IsTextRewritten k bytes line = (t : Data) × (tree_of bytes ≡ Some t) × IsRewritten k t line

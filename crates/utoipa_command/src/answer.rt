@@ -1,16 +1,13 @@
 //! The answer of a command to a text.
-ghost use Rattle.std.specs.Prelude.{◌≡◌, ◌≢◌, Some, false, IfOk, IfErr};
-ghost use Rattle.serde_json.specs.View.{view};
+ghost use Rattle.std.specs.Prelude.{◌≡◌, false, IfOk, IfErr};
 ghost use Rattle.serde_json.specs.Written.{has_float};
-ghost use Rattle.utoipa_base.specs.Reading.{read};
 ghost use Rattle.utoipa_base.specs.Writing.{write};
-ghost use Rattle.utoipa_merging.specs.Sorted.{IsSorted};
-ghost use Rattle.utoipa_command.specs.Answers.{line_of, tree_of, HasNoTree, IsAnswer, IsAnswerToTree, IsCause, IsCauseInTree, IsCauseOfKind, IsRewritten};
+ghost use Rattle.utoipa_command.specs.Answers.{line_of, IsAnswer, IsCause, IsCauseOfText, IsReadAs, IsTextRewritten};
 ghost use Rattle.utoipa_command.specs.Commands.{merge, nest, request_of};
 
 use crate::command::Command;
 use crate::refusal::Refusal;
-use serde_json::Value;
+use simdutf8::compat::from_utf8;
 use std::alloc::Global;
 use utoipa::Tree;
 use utoipa::openapi::{OpenApi, RefOr, Schema, Server, merge_all};
@@ -21,55 +18,30 @@ pub fn answer(alloc: Global, command: Command, text: &[u8]) -> Result<Vec<u8>, R
     ensures ok { IfOk result (λ line. IsAnswer (request_of command.entry) text.now line.items) }
     ensures err { IfErr result (IsCause (request_of command.entry) text.now) }
 {
-    match parsed(alloc, text) {
-        Ok(tree) => answer_to_tree(alloc, command, tree),
-        Err(refusal) => Err(refusal),
-    }
-}
-
-// The tree of a text.
-fn parsed(alloc: Global, text: &[u8]) -> Result<Value, Refusal>
-    ensures ok { IfOk result (λ tree. tree_of text.now ≡ Some (view tree)) }
-    ensures err { IfErr result (λ w. w ≢ Refusal.Memory → w ≡ Refusal.Text) }
-    ensures text { IfErr result (λ w. w ≡ Refusal.Text → HasNoTree text.now) }
-{
-    match Value::from_slice(alloc, text) {
-        Ok(tree) => Ok(tree),
-        Err(e) if e.is_memory() => Err(Refusal::Memory),
-        Err(_) => Err(Refusal::Text),
-    }
-}
-
-fn answer_to_tree(alloc: Global, command: Command, tree: Value) -> Result<Vec<u8>, Refusal>
-    requires sorted { IsSorted (view tree) }
-    ensures ok { IfOk result (λ line. IsAnswerToTree (request_of command.entry) (view tree) line.items) }
-    ensures err { IfErr result (IsCauseInTree (request_of command.entry) (view tree)) }
-{
     match command {
-        Command::Server => rewritten::<Server>(alloc, tree),
-        Command::Schema => rewritten::<RefOr<Schema>>(alloc, tree),
-        Command::Document => rewritten::<OpenApi>(alloc, tree),
-        Command::Merge => merged(alloc, tree),
-        Command::Nest(base) => nested(alloc, base, tree),
+        Command::Server => rewritten::<Server>(alloc, text),
+        Command::Schema => rewritten::<RefOr<Schema>>(alloc, text),
+        Command::Document => rewritten::<OpenApi>(alloc, text),
+        Command::Merge => merged(alloc, text),
+        Command::Nest(base) => nested(alloc, base, text),
     }
 }
 
 // Reads a document of the type and prints it.
-fn rewritten<T: Tree>(alloc: Global, tree: Value) -> Result<Vec<u8>, Refusal>
-    ensures ok { IfOk result (λ line. IsRewritten T.kind (view tree) line.items) }
-    ensures err { IfErr result (IsCauseOfKind T.kind (view tree)) }
+fn rewritten<T: Tree>(alloc: Global, text: &[u8]) -> Result<Vec<u8>, Refusal>
+    ensures ok { IfOk result (λ line. IsTextRewritten T.kind text.now line.items) }
+    ensures err { IfErr result (IsCauseOfText T.kind text.now) }
 {
-    let document = document_of::<T>(alloc, tree)?;
+    let document = document_of::<T>(alloc, text)?;
     line(alloc, &document)
 }
 
 // Prints what the documents of a list are merged into.
-fn merged(alloc: Global, tree: Value) -> Result<Vec<u8>, Refusal>
-    requires sorted { IsSorted (view tree) }
-    ensures ok { IfOk result (λ line. IsAnswerToTree merge (view tree) line.items) }
-    ensures err { IfErr result (IsCauseInTree merge (view tree)) }
+fn merged(alloc: Global, text: &[u8]) -> Result<Vec<u8>, Refusal>
+    ensures ok { IfOk result (λ line. IsAnswer merge text.now line.items) }
+    ensures err { IfErr result (IsCause merge text.now) }
 {
-    let documents = document_of::<Vec<OpenApi>>(alloc, tree)?;
+    let documents = document_of::<Vec<OpenApi>>(alloc, text)?;
     match merge_all(alloc, documents)? {
         Some(document) => line(alloc, &document),
         None => Err(Refusal::Empty),
@@ -77,25 +49,26 @@ fn merged(alloc: Global, tree: Value) -> Result<Vec<u8>, Refusal>
 }
 
 // Prints the first document of a list of two with the second nested into it.
-fn nested(alloc: Global, base: &str, tree: Value) -> Result<Vec<u8>, Refusal>
-    requires sorted { IsSorted (view tree) }
-    ensures ok { IfOk result (λ line. IsAnswerToTree (nest base.now) (view tree) line.items) }
-    ensures err { IfErr result (IsCauseInTree (nest base.now) (view tree)) }
+fn nested(alloc: Global, base: &str, text: &[u8]) -> Result<Vec<u8>, Refusal>
+    ensures ok { IfOk result (λ line. IsAnswer (nest base.now) text.now line.items) }
+    ensures err { IfErr result (IsCause (nest base.now) text.now) }
 {
-    let mut documents = document_of::<Vec<OpenApi>>(alloc, tree)?.into_iter();
+    let mut documents = document_of::<Vec<OpenApi>>(alloc, text)?.into_iter();
     match (documents.next(), documents.next(), documents.next()) {
         (Some(own), Some(nested), None) => line(alloc, &own.nest(alloc, base, nested)?),
         _ => Err(Refusal::Count),
     }
 }
 
-// The document that the tree is.
-fn document_of<T: Tree>(alloc: Global, tree: Value) -> Result<T, Refusal>
-    ensures plain { IfOk result (λ document. has_float (view tree) ≡ false) }
-    ensures ok { IfOk result (λ document. read T.kind (view tree) ≡ Some (T.doc document)) }
-    ensures err { IfErr result (IsCauseOfKind T.kind (view tree)) }
+// The document that a text is.
+fn document_of<T: Tree>(alloc: Global, text: &[u8]) -> Result<T, Refusal>
+    ensures ok { IfOk result (λ document. IsReadAs T.kind text.now (T.doc document)) }
+    ensures err { IfErr result (IsCauseOfText T.kind text.now) }
 {
-    Ok(T::from_value(alloc, &tree)?)
+    match from_utf8(text) {
+        Ok(text) => Ok(T::from_json_text(alloc, text)?),
+        Err(_) => Err(Refusal::Text),
+    }
 }
 
 // The document on a line.
