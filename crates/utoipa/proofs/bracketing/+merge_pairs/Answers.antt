@@ -32,15 +32,20 @@ merged_with-requires-clause-other_plain t c =
     let later = made_is (λ d. IsMerged (map openapi_doc right) (openapi_doc d)) c.merge_pairs-later.result _ c.merge_pairs-later.ensures.ok c.in_ok-merged-in-Join-2.ensures.ok.1 in
     merged_plain right c.in_ok-merged-in-Join-2.later (right_plain (leaves_of c.args.bracketing) (leaves_of c.into_inner.result) right both c.requires.plain) later
 
-pub returns-in-Leaf-clause-ok : goal.returns-in-Leaf-clause-ok
-returns-in-Leaf-clause-ok t c = leaf_merged (leaves_of c.args.bracketing) c.in-Leaf.document (ap leaves_of c.in-Leaf.is)
+pub returns-in-Leaf : goal.returns-in-Leaf
+returns-in-Leaf t c =
+    record {
+      ok = leaf_merged (leaves_of c.args.bracketing) c.in-Leaf.document (ap leaves_of c.in-Leaf.is);
+    }
 
-pub returns-in_ok-merged-in-Join-2-clause-ok : goal.returns-in_ok-merged-in-Join-2-clause-ok
-returns-in_ok-merged-in-Join-2-clause-ok t c =
-    let both = ap leaves_of c.in-Join.is ∙ (λ i. leaves_of (sym c.into_inner.ensures i) ++ leaves_of (sym c.into_inner-in-Join.ensures i)) in
-    let left = leaves_of c.into_inner.result in
-    let right = leaves_of c.into_inner-in-Join.result in
-    let kept = c.in_ok-merged-in-Join-2.ensures.ok in
-    let merged = subst (λ d. IsMerged (map openapi_doc left) (openapi_doc d)) (sym kept.0) c.in_ok-merged-in-Join.ensures.ok in
-    let later = made_is (λ d. IsMerged (map openapi_doc right) (openapi_doc d)) c.merge_pairs-later.result _ c.merge_pairs-later.ensures.ok kept.1 in
-    IfOk-weaker c.merged_with.result _ _ (λ d h. pair_merged (leaves_of c.args.bracketing) left right c.in_ok-merged-in-Join-2.merged c.in_ok-merged-in-Join-2.later d both merged later h) c.merged_with.ensures.ok
+pub returns-in_ok-merged-in-Join-2 : goal.returns-in_ok-merged-in-Join-2
+returns-in_ok-merged-in-Join-2 t c =
+    record {
+      ok = let both = ap leaves_of c.in-Join.is ∙ (λ i. leaves_of (sym c.into_inner.ensures i) ++ leaves_of (sym c.into_inner-in-Join.ensures i)) in
+          let left = leaves_of c.into_inner.result in
+          let right = leaves_of c.into_inner-in-Join.result in
+          let kept = c.in_ok-merged-in-Join-2.ensures.ok in
+          let merged = subst (λ d. IsMerged (map openapi_doc left) (openapi_doc d)) (sym kept.0) c.in_ok-merged-in-Join.ensures.ok in
+          let later = made_is (λ d. IsMerged (map openapi_doc right) (openapi_doc d)) c.merge_pairs-later.result _ c.merge_pairs-later.ensures.ok kept.1 in
+          IfOk-weaker c.merged_with.result _ _ (λ d h. pair_merged (leaves_of c.args.bracketing) left right c.in_ok-merged-in-Join-2.merged c.in_ok-merged-in-Join-2.later d both merged later h) c.merged_with.ensures.ok;
+    }

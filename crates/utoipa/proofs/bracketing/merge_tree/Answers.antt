@@ -15,4 +15,4 @@ pub returns-in-Leaf-clause-ok : goal.returns-in-Leaf-clause-ok
 returns-in-Leaf-clause-ok c = leaf_merged (leaves_of c.args.bracketing) c.in-Leaf.document (ap leaves_of c.in-Leaf.is)
 
 pub returns-else-leaf_has_fraction-clause-one : goal.returns-else-leaf_has_fraction-clause-one
-returns-else-leaf_has_fraction-clause-one c = no_leaf c.args.bracketing c.in_default.not-Leaf (λ d. c.or_memory.result ≡ Ok d)
+returns-else-leaf_has_fraction-clause-one c = no_leaf c.args.bracketing c.in_default.not-Leaf (λ d. c.or_memory-merged.result ≡ Ok d)
