@@ -17,6 +17,12 @@ pub record IsSourceOf (k : Kind) (d : Doc) (bytes : List ℕ) : Type 0 where
   pub has : tree_of bytes ≡ Some tree
   pub reads : ReadsAs k tree d
 
+-- the bytes have this tree, which is read as a document of the kind
+pub record IsTreeOf (k : Kind) (t : Data) (bytes : List ℕ) : Type 0 where
+  pub has : tree_of bytes ≡ Some t
+  pub document : Doc
+  pub reads : ReadsAs k t document
+
 -- ---- bytes that are no JSON
 
 -- white space of JSON

@@ -3,6 +3,7 @@ use Rattle.std.specs.Prelude.{◌≡◌, ℕ, List, Option, None, Some, string_b
 use Rattle.serde_json.specs.Data.{Data}
 use Rattle.utoipa_base.specs.Docs.{Doc}
 use Rattle.utoipa_base.specs.Kinds.{Kind}
+use Rattle.utoipa_base.specs.WellFormed.{ReadsAs}
 use Rattle.utoipa_findings.specs.Findings.{Finding, refusals, findings}
 use Rattle.utoipa_findings.specs.Lines.{lines_of}
 use Rattle.utoipa_findings.specs.Sources.{IsSourceOf, IsTreelessLine, tree_of}
@@ -26,6 +27,11 @@ IsTold f name bytes (Some t) told = told ≡ lines_of name (f t)
 -- what is found in a file
 abbrev pub IsChecked : Kind → (name bytes told : List ℕ) → Type 0
 IsChecked k name bytes told = IsTold (findings k) name bytes (tree_of bytes) told
+
+-- the tree is no document of the kind, and the lines of its file tell why
+pub record IsUnfit (k : Kind) (name : List ℕ) (t : Data) (told : List ℕ) : Type 0 where
+  pub none : (d : Doc) → ReadsAs k t d → ⊥
+  pub lines : told ≡ lines_of name (refusals k t)
 
 -- the file is no document of the kind, and the lines tell why
 pub record IsRefused (k : Kind) (name bytes told : List ℕ) : Type 0 where

@@ -2,7 +2,7 @@
 //!
 //! [`check`] tells all that is found in a file: what does not fit, what is read otherwise than it was meant, what a document that was
 //! written again lacks, and the references that lead to nothing ([`findings`], `specs/Findings.antt`). [`document_of`] reads a file, and
-//! tells with a refusal every place that does not fit. [`conflict_lines`] tells what merging the documents of files drops.
+//! tells with a refusal every place that does not fit; [`tree_of_document`] answers the tree of one that fits. [`conflict_lines`] tells what merging the documents of files drops.
 //!
 //! The lines are defined letter by letter (`specs/Lines.antt`), but for the line and the column at which a text that is no JSON is broken.
 #![tactic(auto)]
@@ -18,7 +18,7 @@ mod text;
 
 pub use conflict::conflict_lines;
 pub use finding::{Finding, What};
-pub use reading::document_of;
+pub use reading::{document_of, tree_of_document};
 pub use refusal::Refusal;
 pub use report::{check, findings};
 pub use source::Source;

@@ -1,21 +1,24 @@
 //! The document that a file is, or why it is none.
-ghost use Rattle.std.specs.Prelude.{◌≡◌, IfOk, IfErr, string_bytes};
+ghost use Rattle.std.specs.Prelude.{◌≡◌, Some, IfOk, IfErr, OnOk, string_bytes};
 ghost use Rattle.std.specs.Str.{IsUtf8};
 ghost use Rattle.serde_json.specs.View.{view};
+ghost use Rattle.utoipa_base.specs.Docs.{Doc};
+ghost use Rattle.utoipa_base.specs.WellFormed.{ReadsAs};
 ghost use Rattle.utoipa_findings.specs.Findings as specs;
 ghost use Rattle.utoipa_findings.specs.Lines.{lines_of as lines_text};
-ghost use Rattle.utoipa_findings.specs.Sources.{IsSourceOf, tree_of};
-ghost use Rattle.utoipa_findings.specs.Told.{Tells, IsTold, IsRefused};
+ghost use Rattle.utoipa_findings.specs.Sources as sources;
+ghost use Rattle.utoipa_findings.specs.Told.{Tells, IsTold, IsRefused, IsUnfit};
 ghost use Rattle.utoipa_tables.specs.Tables.{kind_of};
 
 use crate::lines::lines_of;
 use crate::refusal::Refusal;
 use crate::report::put_refusals;
 use crate::source::Source;
-use crate::text::{text_of, tree_of_text};
+use crate::text::{text_of, tree_of, tree_of_text};
 use serde_json::Value;
 use std::alloc::{AllocError, Global};
 use utoipa_base::{ReadFault, Tree};
+use utoipa_check::misfits;
 use utoipa_tables::Kind;
 
 /// The lines of all that does not fit in a tree. Fails where memory runs out.
@@ -30,7 +33,7 @@ fn refusal_lines(alloc: Global, kind: Kind, name: &str, tree: &Value) -> Result<
 /// The lines that tell why a text is no document of a kind. Fails where memory runs out.
 fn why_refused(alloc: Global, kind: Kind, name: &str, text: &str) -> Result<String, AllocError>
     requires { IsUtf8 text.now }
-    ensures { IfOk result (λ lines. IsTold (specs.refusals (kind_of kind)) name.now text.now (tree_of text.now) (string_bytes lines)) }
+    ensures { IfOk result (λ lines. IsTold (specs.refusals (kind_of kind)) name.now text.now (sources.tree_of text.now) (string_bytes lines)) }
 {
     match tree_of_text(alloc, name, text) {
         Ok(tree) => refusal_lines(alloc, kind, name, &tree),
@@ -44,7 +47,7 @@ fn why_refused(alloc: Global, kind: Kind, name: &str, text: &str) -> Result<Stri
 /// Fails where the file is none, with a line for each place that does not fit, or for the text that is no JSON; and where memory runs out.
 pub fn document_of<T: Tree>(alloc: Global, kind: Kind, source: Source<'_>) -> Result<T, Refusal>
     requires { kind_of kind ≡ T.kind }
-    ensures ok { IfOk result (λ document. IsSourceOf T.kind (T.doc document) source.entry.bytes.now) }
+    ensures ok { IfOk result (λ document. sources.IsSourceOf T.kind (T.doc document) source.entry.bytes.now) }
     ensures err { IfErr result (Tells (IsRefused (kind_of kind) source.entry.name.now source.entry.bytes.now)) }
 {
     let text = text_of(alloc, source)?;
@@ -53,4 +56,29 @@ pub fn document_of<T: Tree>(alloc: Global, kind: Kind, source: Source<'_>) -> Re
         Err(ReadFault::Memory) => Err(Refusal::Memory),
         Err(_) => Err(Refusal::Told(why_refused(alloc, kind, source.name, text)?)),
     }
+}
+
+/// Fails where a tree is no document of a kind, with a line for each place that does not fit, and where memory runs out.
+fn refuse_misfits(alloc: Global, kind: Kind, name: &str, tree: &Value) -> Result<(), Refusal>
+    ensures ok { OnOk result ((d : Doc) × ReadsAs (kind_of kind) (view tree.now) d) }
+    ensures err { IfErr result (Tells (IsUnfit (kind_of kind) name.now (view tree.now))) }
+{
+    let report = misfits(alloc, kind, tree)?;
+    if report.misfits.is_empty() {
+        return Ok(());
+    }
+    let lines = refusal_lines(alloc, kind, name, tree)?;
+    Err(Refusal::Told(lines))
+}
+
+/// The tree of a file that is a document of a kind.
+///
+/// Fails where the file is none, with a line for each place that does not fit, or for the text that is no JSON; and where memory runs out.
+pub fn tree_of_document(alloc: Global, kind: Kind, source: Source<'_>) -> Result<Value, Refusal>
+    ensures ok { IfOk result (λ tree. sources.IsTreeOf (kind_of kind) (view tree) source.entry.bytes.now) }
+    ensures err { IfErr result (Tells (IsRefused (kind_of kind) source.entry.name.now source.entry.bytes.now)) }
+{
+    let tree = tree_of(alloc, source)?;
+    refuse_misfits(alloc, kind, source.name, &tree)?;
+    Ok(tree)
 }

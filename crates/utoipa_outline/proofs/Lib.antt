@@ -1,0 +1,5 @@
+pub mod Letters
+pub mod Results
+pub mod Naming
+pub mod Names
+pub mod Counts

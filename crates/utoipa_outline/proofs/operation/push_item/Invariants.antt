@@ -1,0 +1,11 @@
+use Rattle.std.proofs.Common.{◌≡◌, ◌++◌}
+use Rattle.serde_json.specs.View.{members_view}
+use Rattle.utoipa_outline.specs.Members.{each_member}
+use Rattle.utoipa_outline.specs.Operations.{member_operations}
+use Rattle.utoipa_outline.specs.Views.{all_operations}
+use Rattle.utoipa_outline.proofs.operation.push_item.Given as goal
+
+abbrev pub invariant-loop-name : goal.invariant-loop-name
+invariant-loop-name l =
+    all_operations l.found.items ++ each_member (member_operations l.path) (members_view l.name-iterator)
+    ≡ all_operations l.initial.found.items ++ each_member (member_operations l.path) (members_view l.initial.name-iterator)

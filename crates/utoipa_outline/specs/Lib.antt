@@ -1,0 +1,9 @@
+pub mod Members
+pub mod OneLine
+pub mod Operations
+pub mod Lines
+pub mod Used
+pub mod Counted
+pub mod Depth
+pub mod Stats
+pub mod Views
