@@ -1,4 +1,4 @@
-//! The document of the gateway.
+//! The document of the gateway, and what is dropped where services contradict each other.
 ghost use Rattle.std.specs.Prelude.{IfOk};
 ghost use Rattle.utoipa.specs.OpenApi.{openapi_doc};
 ghost use Rattle.example_gateway.specs.Gateway.{IsGatewayOf};
@@ -7,6 +7,17 @@ use crate::service::Service;
 use std::alloc::Global;
 use utoipa::Tree;
 use utoipa::openapi::{MergeFault, OpenApi, merge_all};
+use utoipa_document_conflicts::{DocumentConflict, conflicts};
+
+/// The document of the gateway.
+#[derive(Debug, Drop)]
+pub struct Gateway {
+    /// The gateway's own document, with those of all services merged into it.
+    pub document: OpenApi,
+    /// What a service says that another one has said before it, and otherwise. The gateway's own document has number 0, and the services
+    /// follow.
+    pub conflicts: Vec<DocumentConflict>,
+}
 
 /// The gateway's own document with those of all services merged into it, the paths of each behind its base.
 ///
@@ -15,8 +26,8 @@ use utoipa::openapi::{MergeFault, OpenApi, merge_all};
 ///
 /// Fails with `Memory` where memory runs out, and with `Fraction` where a number in a server or a tag is neither an `i64` nor a `u64`,
 /// which is so in no document that was read.
-pub fn merged(alloc: Global, own: OpenApi, services: Vec<Service>) -> Result<OpenApi, MergeFault>
-    ensures { IfOk result (λ document. IsGatewayOf (openapi_doc own) services.items (openapi_doc document)) }
+pub fn merged(alloc: Global, own: OpenApi, services: Vec<Service>) -> Result<Gateway, MergeFault>
+    ensures { IfOk result (λ gateway. IsGatewayOf (openapi_doc own) services.items (openapi_doc gateway.document)) }
 {
     let mut documents = Vec::new(alloc);
     documents.push(own.try_clone(alloc)?)?;
@@ -24,6 +35,11 @@ pub fn merged(alloc: Global, own: OpenApi, services: Vec<Service>) -> Result<Ope
         let copy = own.try_clone(alloc)?;
         documents.push(copy.nest(alloc, base.as_str(), document)?)?;
     }
+    let conflicts = conflicts(alloc, &documents)?;
     // There is a document at least: the gateway's own.
-    Ok(merge_all(alloc, documents)?.unwrap())
+    let document = merge_all(alloc, documents)?.unwrap();
+    Ok(Gateway {
+        document,
+        conflicts,
+    })
 }

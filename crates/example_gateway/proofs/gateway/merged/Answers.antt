@@ -65,8 +65,8 @@ there : {T : Type 0} (o : Option T) → (o ≡ None → ⊥) → IsSome o
 there None h = absurd (h refl)
 there (Some x) h = refl
 
-pub unwrap-requires : goal.unwrap-requires
-unwrap-requires c =
+pub unwrap-document-requires : goal.unwrap-document-requires
+unwrap-document-requires c =
     there c.in_ok-merge_all.field-0
     (λ none. none_listed openapi_doc c.loop-base.documents.items (openapi_doc c.args.own) c.loop-base.invariant.nested c.loop-base.invariant.documents (c.in_ok-merge_all.ensures.some none))
 
@@ -79,5 +79,5 @@ returns c =
     record {
       nested = before.nested;
       each = subst (λ services. AllZip (IsNestedOf (openapi_doc c.args.own)) services before.nested) all before.each;
-      merged = subst (λ ds. IsMerged ds (openapi_doc c.unwrap.result)) before.documents (if_is _ _ _ c.in_ok-merge_all.ensures.ok c.unwrap.ensures);
+      merged = subst (λ ds. IsMerged ds (openapi_doc c.unwrap-document.result)) before.documents (if_is _ _ _ c.in_ok-merge_all.ensures.ok c.unwrap-document.ensures);
     }
