@@ -32,7 +32,7 @@ CXX = os.environ.get("CXX", "c++")
 
 # What the archive asks of the program that it is linked into, and what the shared library offers.
 ASKS = "memcpy memmove memset rattle_alloc rattle_dealloc rattle_realloc".split()
-OFFERS = "utoipa_document utoipa_merge utoipa_nest utoipa_schema utoipa_server".split()
+OFFERS = "utoipa_check utoipa_conflicts utoipa_document utoipa_merge utoipa_nest utoipa_schema utoipa_server".split()
 
 # Where the archive is built, in the crate's folder.
 ARCHIVE = "out/libutoipa_c.a"
@@ -78,7 +78,7 @@ def build_archive(room, is_gate):
         crate = os.path.join(room, "crates", NAME)
     began = time.time()
     os.makedirs(os.path.join(crate, "out"), exist_ok=True)
-    run(words_of_build(listed, names), cwd=crate)
+    run(words_of_build(listed, names, crate), cwd=crate)
     print("the archive: built in %s" % part.minutes(time.time() - began), flush=True)
     return os.path.join(crate, ARCHIVE)
 
@@ -93,17 +93,15 @@ def prove_in(room, names, listed):
         raise NotSo("the crates are proved:\n" + text_of(log)[-3000:])
 
 
-def words_of_build(listed, names):
+def words_of_build(listed, names, crate):
     """The command that builds the archive over the libraries which `rt ci` has made. `rt lib` would prove each of them again."""
-    kit = os.path.dirname(run(["rt", "doc"]).strip())
-    of_part = {it: "../{0}/out/rlib/{0}.rlib".format(it) for it in names}
-    words = [os.path.join(kit, "bin", "rattle"), "build", "--crate-name", NAME, "src/lib.rt", "--crate-type", "staticlib"]
-    for it in ["std", *listed[NAME].uses]:
-        words += ["--extern", "%s=%s" % (it, of_part.get(it, os.path.join(kit, "rlibs", it + ".rlib")))]
-    for folder in [os.path.join(kit, "rlibs"), *(os.path.dirname(of_part[it]) for it in names if it != NAME)]:
-        words += ["-L", "dependency=" + folder]
-    words += ["--antt-project", os.path.join(kit, "rattle", "logic", "antt-project.json"), "--logic-built", os.path.join(kit, "logic_built")]
-    return [*words, "--backend", "llvm", "--toolchain", os.path.join(kit, "toolchain"), "-o", ARCHIVE]
+    words = part.words_over_libraries("build", NAME, listed, names, os.path.dirname(crate))
+    return [*words, "src/lib.rt", "--crate-type", "staticlib", "--backend", "llvm", "--toolchain", toolchain(), "-o", ARCHIVE]
+
+
+def toolchain():
+    """The folder of the toolchain's linker and C library."""
+    return os.path.join(os.path.dirname(run(["rt", "doc"]).strip()), "toolchain")
 
 
 def put_together(archive, folder):

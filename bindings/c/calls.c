@@ -67,7 +67,7 @@ static uint8_t call(command made, struct bytes text, size_t room_length, size_t 
     memset(room, '.', room_length + behind);
     *needed = UNSAID;
     uint8_t code = made(text.at, text.length, room, room_length, needed);
-    HOLDS(code <= UTOIPA_BASE);
+    HOLDS(code <= UTOIPA_NAME);
     HOLDS(code != UTOIPA_DONE || *needed <= room_length);
     HOLDS(code != UTOIPA_ROOM || *needed > room_length);
     HOLDS(code == UTOIPA_DONE || code == UTOIPA_ROOM || *needed == UNSAID);
@@ -153,6 +153,14 @@ static uint8_t nest_at_no_text(const uint8_t *text, size_t text_length, uint8_t 
     return utoipa_nest((const uint8_t *)"/\xc3", 2, text, text_length, room, room_length, needed);
 }
 
+static uint8_t check_as_a(const uint8_t *text, size_t text_length, uint8_t *room, size_t room_length, size_t *needed) {
+    return utoipa_check((const uint8_t *)"a.json", 6, text, text_length, room, room_length, needed);
+}
+
+static uint8_t check_as_no_text(const uint8_t *text, size_t text_length, uint8_t *room, size_t room_length, size_t *needed) {
+    return utoipa_check((const uint8_t *)"a\xff", 2, text, text_length, room, room_length, needed);
+}
+
 static const struct example {
     const char *name;
     command made;
@@ -224,6 +232,39 @@ static void a_base_that_is_no_text_is_refused(void) {
     refuses(nest_at_no_text, "[", UTOIPA_BASE);
 }
 
+#define MISFIT "{\"openapi\":\"3.1.0\",\"info\":{\"title\":\"t\"},\"paths\":{}}"
+#define FOUND "a.json: /info: the member `version` is required\n"
+#define DROPPED "/info: document 1's value is dropped, since document 0 decides\n"
+
+static void what_is_found_is_told(void) {
+    answers(check_as_a, MISFIT, FOUND);
+    answers(check_as_a, "[\n1", "a.json:2:1: this is no JSON\n");
+    answers(check_as_a, "{\"a\":\"\xff\"}", "a.json:1:7: this is no UTF-8\n");
+    refuses(check_as_no_text, MISFIT, UTOIPA_NAME);
+}
+
+static void what_merging_drops_is_told(void) {
+    answers(utoipa_conflicts, TWO, DROPPED);
+    refuses(utoipa_conflicts, "{}", UTOIPA_KIND);
+    refuses(utoipa_conflicts, "[{}]", UTOIPA_MISSING);
+    refuses(utoipa_conflicts, "[", UTOIPA_TEXT);
+    refuses(utoipa_conflicts, "[0.5]", UTOIPA_FRACTION);
+}
+
+static void where_there_is_nothing_to_tell_the_answer_is_empty(void) {
+    struct bytes one = of(DOCUMENT_A), list = of("[" DOCUMENT_A "," DOCUMENT_A "]"), none = of("[]"), answer = {NULL, 0};
+    size_t needed;
+    HOLDS(call(check_as_a, one, 0, &needed, &answer) == UTOIPA_DONE && needed == 0);
+    free(answer.at);
+    HOLDS(call(utoipa_conflicts, list, 0, &needed, &answer) == UTOIPA_DONE && needed == 0);
+    free(answer.at);
+    HOLDS(call(utoipa_conflicts, none, 0, &needed, &answer) == UTOIPA_DONE && needed == 0);
+    free(answer.at);
+    free(one.at);
+    free(list.at);
+    free(none.at);
+}
+
 static void texts_nest_127_levels(void) {
     for (size_t levels = 127; levels <= 128; ++levels) {
         const char *begin = "{\"additionalProperties\":";
@@ -244,11 +285,15 @@ static void texts_nest_127_levels(void) {
 }
 
 static void each_request_for_memory_refused_is_told(const char *given, const char *due) {
-    struct bytes two = of(TWO), merged = of(MERGED), nested = of(NESTED);
+    struct bytes two = of(TWO), merged = of(MERGED), nested = of(NESTED), dropped = of(DROPPED), misfit = of(MISFIT), found = of(FOUND);
     size_t told = tells_want_of_memory(utoipa_merge, two, merged) + tells_want_of_memory(nest_at_v1, two, nested);
+    told += tells_want_of_memory(utoipa_conflicts, two, dropped) + tells_want_of_memory(check_as_a, misfit, found);
     free(two.at);
     free(merged.at);
     free(nested.at);
+    free(dropped.at);
+    free(misfit.at);
+    free(found.at);
     for (size_t at = 0; at < sizeof examples / sizeof *examples; ++at) {
         struct bytes text = read_file(given, examples[at].name), wanted = read_file(due, examples[at].name);
         said = examples[at].name;
@@ -273,6 +318,9 @@ int main(int count, char **words) {
     CALL(documents_are_merged, ());
     CALL(a_document_is_nested, ());
     CALL(a_base_that_is_no_text_is_refused, ());
+    CALL(what_is_found_is_told, ());
+    CALL(what_merging_drops_is_told, ());
+    CALL(where_there_is_nothing_to_tell_the_answer_is_empty, ());
     CALL(texts_nest_127_levels, ());
     CALL(each_request_for_memory_refused_is_told, (words[1], words[2]));
     return 0;

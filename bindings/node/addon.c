@@ -1,7 +1,8 @@
-/* The library as a module of Node, by Node-API: the functions server, schema, document, merge and nest.
+/* The library as a module of Node, by Node-API: the functions server, schema, document, merge, nest, check and conflicts.
  *
- * Each takes a JSON text, as a string or as a Uint8Array, nest a base before it, and returns JSON as a string, without a line feed at its
- * end. Where a text has no answer, an Error is thrown whose `code` is the word of the refusal. */
+ * Each takes a JSON text, as a string or as a Uint8Array, nest a base before it and check a name, and returns a string: check and conflicts
+ * lines, each with a line feed at its end, the others JSON without one. Where a text has no answer, an Error is thrown whose `code` is the
+ * word of the refusal. */
 #include "utoipa.h"
 
 #include <node_api.h>
@@ -22,6 +23,7 @@ static const struct refusal {
     [UTOIPA_EMPTY] = {"empty", "there is no document to merge"},
     [UTOIPA_COUNT] = {"count", "there are not two documents, of which the second is to be nested into the first"},
     [UTOIPA_BASE] = {"base", "the base is not UTF-8"},
+    [UTOIPA_NAME] = {"name", "the name is not UTF-8"},
 };
 
 /* Bytes that are to be freed. */
@@ -67,23 +69,43 @@ static bool take(napi_env env, napi_value given, struct bytes *taken) {
 
 typedef uint8_t (*command)(const uint8_t *text, size_t text_length, uint8_t *room, size_t room_length, size_t *needed);
 
-/* Calls a function of the library: utoipa_nest where there is none. */
-static uint8_t call(command made, struct bytes base, struct bytes text, struct bytes *room, size_t *needed) {
-    return made ? made(text.at, text.length, room->at, room->length, needed)
-                : utoipa_nest(base.at, base.length, text.at, text.length, room->at, room->length, needed);
+typedef uint8_t (*command_of_two)(const uint8_t *first, size_t first_length, const uint8_t *text, size_t text_length, uint8_t *room,
+                                  size_t room_length, size_t *needed);
+
+/* A function of the module, and the one of the library that it calls: one that is given a text, or one that is given another before it. */
+static const struct named {
+    const char *name;
+    command of_one;
+    command_of_two of_two;
+    /* How many bytes at the end of an answer are left out: the line feed of a line. */
+    size_t left_out;
+} functions[] = {
+    {"server", utoipa_server, NULL, 1},
+    {"schema", utoipa_schema, NULL, 1},
+    {"document", utoipa_document, NULL, 1},
+    {"merge", utoipa_merge, NULL, 1},
+    {"nest", NULL, utoipa_nest, 1},
+    {"check", NULL, utoipa_check, 0},
+    {"conflicts", utoipa_conflicts, NULL, 0},
+};
+
+static uint8_t call(const struct named *function, struct bytes first, struct bytes text, struct bytes *room, size_t *needed) {
+    return function->of_one ? function->of_one(text.at, text.length, room->at, room->length, needed)
+                            : function->of_two(first.at, first.length, text.at, text.length, room->at, room->length, needed);
 }
 
 /* The answer as a string, or NULL where an exception is pending. */
-static napi_value answer_of(napi_env env, command made, struct bytes base, struct bytes text) {
+static napi_value answer_of(napi_env env, const struct named *function, struct bytes first, struct bytes text) {
     /* The answer is mostly no longer than the text and its line feed. Where it is, the library says how long. */
     struct bytes room = {NULL, text.length + 1};
     for (;;) {
         size_t needed;
         napi_value answer = NULL;
         room.at = malloc(room.length);
-        uint8_t code = room.at ? call(made, base, text, &room, &needed) : UTOIPA_MEMORY;
-        /* Without the line feed. There may be no memory for a string, too. */
-        if (code == UTOIPA_DONE && napi_create_string_utf8(env, (const char *)room.at, needed - 1, &answer) != napi_ok) code = UTOIPA_MEMORY;
+        uint8_t code = room.at ? call(function, first, text, &room, &needed) : UTOIPA_MEMORY;
+        /* There may be no memory for a string, too. */
+        if (code == UTOIPA_DONE && napi_create_string_utf8(env, (const char *)room.at, needed - function->left_out, &answer) != napi_ok)
+            code = UTOIPA_MEMORY;
         free(room.at);
         if (code != UTOIPA_DONE && code != UTOIPA_ROOM) refuse(env, code);
         if (code != UTOIPA_ROOM) return answer;
@@ -91,31 +113,26 @@ static napi_value answer_of(napi_env env, command made, struct bytes base, struc
     }
 }
 
-/* What a function of the module does: its data is the function of the library, none for utoipa_nest. */
+/* What a function of the module does, which is its data. */
 static napi_value answer(napi_env env, napi_callback_info info) {
     napi_value given[2], made = NULL;
     size_t count = 2;
     void *data;
     if (napi_get_cb_info(env, info, &count, given, NULL, &data) != napi_ok) return NULL;
-    const command *function = data;
-    size_t wanted = *function ? 1 : 2;
-    struct bytes base = {NULL, 0}, text = {NULL, 0};
+    const struct named *function = data;
+    size_t wanted = function->of_one ? 1 : 2;
+    struct bytes first = {NULL, 0}, text = {NULL, 0};
     /* An argument that is not there is undefined, and so no text. */
-    if ((wanted == 1 || take(env, given[0], &base)) && take(env, given[wanted - 1], &text)) made = answer_of(env, *function, base, text);
-    free(base.at);
+    if ((wanted == 1 || take(env, given[0], &first)) && take(env, given[wanted - 1], &text)) made = answer_of(env, function, first, text);
+    free(first.at);
     free(text.at);
     return made;
 }
 
-static const struct named {
-    const char *name;
-    command made;
-} functions[] = {{"server", utoipa_server}, {"schema", utoipa_schema}, {"document", utoipa_document}, {"merge", utoipa_merge}, {"nest", NULL}};
-
 NAPI_MODULE_INIT() {
     for (size_t at = 0; at < sizeof functions / sizeof *functions; ++at) {
         napi_value made;
-        if (napi_create_function(env, functions[at].name, NAPI_AUTO_LENGTH, answer, (void *)&functions[at].made, &made) != napi_ok
+        if (napi_create_function(env, functions[at].name, NAPI_AUTO_LENGTH, answer, (void *)&functions[at], &made) != napi_ok
             || napi_set_named_property(env, exports, functions[at].name, made) != napi_ok)
             return NULL;
     }

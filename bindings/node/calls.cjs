@@ -79,6 +79,18 @@ const calls = {
   "a base that is no text is refused"() {
     refuses("base", () => utoipa.nest(Buffer.from([0x2f, 0xc3]), `[${FIRST},${SECOND}]`));
   },
+  "what is found is told"() {
+    const text = '{"openapi":"3.1.0","info":{"title":"t"},"paths":{}}';
+    assert.strictEqual(utoipa.check("a.json", text), "a.json: /info: the member `version` is required\n");
+    assert.strictEqual(utoipa.check("a.json", FIRST), "");
+    refuses("name", () => utoipa.check(Buffer.from([0xff]), text));
+  },
+  "what merging drops is told"() {
+    const dropped = "/info: document 1's value is dropped, since document 0 decides\n";
+    assert.strictEqual(utoipa.conflicts(`[${FIRST},${SECOND}]`), dropped);
+    assert.strictEqual(utoipa.conflicts(`[${FIRST},${FIRST}]`), "");
+    refuses("kind", () => utoipa.conflicts("{}"));
+  },
   "the stack is enough for what nests deepest": callDeepest,
 };
 

@@ -83,6 +83,18 @@ class Calls(unittest.TestCase):
     def test_a_base_that_is_no_text_is_refused(self):
         self.refuses("base", utoipa.nest, b"/\xc3", "[%s,%s]" % (FIRST, SECOND))
 
+    def test_what_is_found_is_told(self):
+        text = '{"openapi":"3.1.0","info":{"title":"t"},"paths":{}}'
+        self.assertEqual(utoipa.check("a.json", text), "a.json: /info: the member `version` is required\n")
+        self.assertEqual(utoipa.check("a.json", FIRST), "")
+        self.refuses("name", utoipa.check, b"\xff", text)
+
+    def test_what_merging_drops_is_told(self):
+        dropped = "/info: document 1's value is dropped, since document 0 decides\n"
+        self.assertEqual(utoipa.conflicts("[%s,%s]" % (FIRST, SECOND)), dropped)
+        self.assertEqual(utoipa.conflicts("[%s,%s]" % (FIRST, FIRST)), "")
+        self.refuses("kind", utoipa.conflicts, "{}")
+
     def test_the_examples_of_the_module_are_so(self):
         self.assertEqual(doctest.testmod(utoipa).failed, 0)
 

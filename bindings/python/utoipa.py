@@ -1,7 +1,8 @@
-"""OpenAPI 3.1 and 3.2 documents read, written, merged and nested, by a library of which each function is proved.
+"""OpenAPI 3.1 and 3.2 documents read, written, merged, nested and checked, by a library of which each function is proved.
 
-Each function takes a JSON text, a str or bytes, and returns JSON: with no space between its parts, and with the members of each
-object in the order of their names. Where a text has no answer, `Refused` is raised. What is promised of each is what utoipa.h says.
+Each function takes a JSON text, a str or bytes. `check` and `conflicts` return lines, each with a line feed at its end; the others return JSON:
+with no space between its parts, and with the members of each object in the order of their names. Where a text has no answer, `Refused` is
+raised. What is promised of each is what utoipa.h says.
 
     >>> import utoipa
     >>> utoipa.server('{ "url": "/v1", "description": null }')
@@ -23,7 +24,7 @@ import ctypes
 import os
 from typing import Any, Union
 
-__all__ = ["STACK", "Refused", "document", "merge", "nest", "schema", "server"]
+__all__ = ["STACK", "Refused", "check", "conflicts", "document", "merge", "nest", "schema", "server"]
 
 Text = Union[str, bytes, bytearray, memoryview]
 
@@ -44,6 +45,7 @@ _REFUSALS = {
     9: ("empty", "there is no document to merge"),
     10: ("count", "there are not two documents, of which the second is to be nested into the first"),
     11: ("base", "the base is not UTF-8"),
+    14: ("name", "the name is not UTF-8"),
 }
 
 
@@ -51,9 +53,9 @@ class Refused(ValueError):
     """A text that has no answer. `word` says why.
 
     It is `memory`, `text` (no JSON text), `fraction` (a number that is neither an i64 nor a u64), `missing` (a required member), `kind`,
-    `word`, `alternative`, `empty` (no document to merge), `count` (not two documents to nest) or `base` (which is not UTF-8). Which of
-    `missing`, `kind`, `word` and `alternative` comes is not promised: each says that the text is JSON, with no fraction, and no document of
-    the kind that is read.
+    `word`, `alternative`, `empty` (no document to merge), `count` (not two documents to nest), or `base` or `name` (which is not UTF-8).
+    Which of `missing`, `kind`, `word` and `alternative` comes is not promised: each says that the text is JSON, with no fraction, and no
+    document of the kind that is read.
     """
 
     word: str
@@ -68,9 +70,9 @@ def _library() -> ctypes.CDLL:
     library = ctypes.CDLL(os.path.join(os.environ.get("UTOIPA_LIBRARY", ""), "libutoipa.so"))
     given = [ctypes.c_char_p, ctypes.c_size_t]
     answered = [ctypes.c_void_p, ctypes.c_size_t, ctypes.POINTER(ctypes.c_size_t)]
-    for name in ("server", "schema", "document", "merge", "nest"):
+    for name in ("server", "schema", "document", "merge", "nest", "check", "conflicts"):
         function = getattr(library, "utoipa_" + name)
-        function.argtypes = (given if name == "nest" else []) + given + answered
+        function.argtypes = (given if name in ("nest", "check") else []) + given + answered
         function.restype = ctypes.c_uint8
     return library
 
@@ -92,33 +94,54 @@ def _answer(function: Any, *given: Text) -> str:
         room, needed = ctypes.create_string_buffer(length), ctypes.c_size_t()
         code = function(*passed, room, length, ctypes.byref(needed))
         if code == _DONE:
-            # Without the line feed.
-            return ctypes.string_at(room, needed.value - 1).decode()
+            return ctypes.string_at(room, needed.value).decode()
         if code != _ROOM:
             raise Refused(code)
         length = needed.value
 
 
+def _line(function: Any, *given: Text) -> str:
+    """The answer without the line feed at its end."""
+    return _answer(function, *given)[:-1]
+
+
 def server(text: Text) -> str:
     """Reads a Server Object (OpenAPI 3.1, section 4.8.5) and writes it."""
-    return _answer(_LIBRARY.utoipa_server, text)
+    return _line(_LIBRARY.utoipa_server, text)
 
 
 def schema(text: Text) -> str:
     """Reads a Schema Object, or a reference to one (section 4.8.24), and writes it."""
-    return _answer(_LIBRARY.utoipa_schema, text)
+    return _line(_LIBRARY.utoipa_schema, text)
 
 
 def document(text: Text) -> str:
     """Reads an OpenAPI Object (section 4.8.1) and writes it."""
-    return _answer(_LIBRARY.utoipa_document, text)
+    return _line(_LIBRARY.utoipa_document, text)
 
 
 def merge(text: Text) -> str:
     """Reads a list of OpenAPI documents and writes what they are merged into."""
-    return _answer(_LIBRARY.utoipa_merge, text)
+    return _line(_LIBRARY.utoipa_merge, text)
 
 
 def nest(base: Text, text: Text) -> str:
     """Reads a list of two OpenAPI documents and writes the first with the second nested into it, its paths behind the base."""
-    return _answer(_LIBRARY.utoipa_nest, base, text)
+    return _line(_LIBRARY.utoipa_nest, base, text)
+
+
+def check(name: Text, text: Text) -> str:
+    """Tells what is found in a text that is to be an OpenAPI Object, in lines `NAME: POINTER: WHAT`: each place that does not fit, is read otherwise
+    than it was meant, is dropped where the text is read and written again, or refers to nothing; or that the text is no JSON. Empty where
+    nothing is found.
+
+    >>> check("api.json", '{"openapi":"3.1.0","info":{"title":"t"},"paths":{}}')
+    'api.json: /info: the member `version` is required\\n'
+    """
+    return _answer(_LIBRARY.utoipa_check, name, text)
+
+
+def conflicts(text: Text) -> str:
+    """Reads a list of OpenAPI documents and tells what merging them drops: a line for each value in whose place another document decides, with
+    its place, a JSON Pointer, and the numbers of both documents, counted from 0. Empty where nothing is dropped."""
+    return _answer(_LIBRARY.utoipa_conflicts, text)

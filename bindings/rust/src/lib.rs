@@ -1,7 +1,7 @@
-//! OpenAPI 3.1 and 3.2 documents read, written, merged and nested, by a library of which each function is proved.
+//! OpenAPI 3.1 and 3.2 documents read, written, merged, nested and checked, by a library of which each function is proved.
 //!
-//! Each function takes a JSON text and answers JSON: with no space between its parts, and with the members of each object in the order of
-//! their names. What is promised of each is what `utoipa.h` says.
+//! Each function takes a JSON text. [`check`] and [`conflicts`] answer lines, each with a line feed at its end; the others answer JSON: with no
+//! space between its parts, and with the members of each object in the order of their names. What is promised of each is what `utoipa.h` says.
 //!
 //! ```
 //! use utoipa_proved::{server, Refusal};
@@ -76,7 +76,34 @@ mod library {
             room_length: usize,
             needed: *mut usize,
         ) -> u8;
+        pub fn utoipa_check(
+            name: *const u8,
+            name_length: usize,
+            text: *const u8,
+            text_length: usize,
+            room: *mut u8,
+            room_length: usize,
+            needed: *mut usize,
+        ) -> u8;
+        pub fn utoipa_conflicts(
+            text: *const u8,
+            text_length: usize,
+            room: *mut u8,
+            room_length: usize,
+            needed: *mut usize,
+        ) -> u8;
     }
+
+    /// A command that is given a text, and another before it.
+    pub type CommandOfTwo = unsafe extern "C" fn(
+        first: *const u8,
+        first_length: usize,
+        text: *const u8,
+        text_length: usize,
+        room: *mut u8,
+        room_length: usize,
+        needed: *mut usize,
+    ) -> u8;
 
     pub const DONE: u8 = 0;
     pub const ROOM: u8 = 1;
@@ -173,8 +200,7 @@ fn answer(length: usize, call: impl Fn(&mut [u8], &mut usize) -> u8) -> Result<S
         let mut needed = 0;
         match call(&mut room, &mut needed) {
             library::DONE => {
-                // The line without its line feed.
-                room.truncate(needed - 1);
+                room.truncate(needed);
                 return Ok(String::from_utf8(room).expect("an answer is UTF-8"));
             }
             library::ROOM => room.resize(needed, 0),
@@ -199,55 +225,18 @@ fn answer_by(command: library::Command, text: &[u8]) -> Result<String, Refusal> 
     })
 }
 
-/// Reads a Server Object (OpenAPI 3.1, section 4.8.5) and writes it.
-///
-/// # Errors
-///
-/// Fails with why the text has no answer: it is no JSON text, it holds a fraction, it is no such object, or memory ran out.
-pub fn server(text: impl AsRef<[u8]>) -> Result<String, Refusal> {
-    answer_by(library::utoipa_server, text.as_ref())
-}
-
-/// Reads a Schema Object, or a reference to one (section 4.8.24), and writes it.
-///
-/// # Errors
-///
-/// As [`server`].
-pub fn schema(text: impl AsRef<[u8]>) -> Result<String, Refusal> {
-    answer_by(library::utoipa_schema, text.as_ref())
-}
-
-/// Reads an OpenAPI Object (section 4.8.1) and writes it.
-///
-/// # Errors
-///
-/// As [`server`].
-pub fn document(text: impl AsRef<[u8]>) -> Result<String, Refusal> {
-    answer_by(library::utoipa_document, text.as_ref())
-}
-
-/// Reads a list of OpenAPI documents and writes what they are merged into.
-///
-/// # Errors
-///
-/// As [`server`], and with [`Refusal::Empty`] of a list of no documents.
-pub fn merge(text: impl AsRef<[u8]>) -> Result<String, Refusal> {
-    answer_by(library::utoipa_merge, text.as_ref())
-}
-
-/// Reads a list of two OpenAPI documents and writes the first with the second nested into it, its paths behind the base.
-///
-/// # Errors
-///
-/// As [`server`], and with [`Refusal::Count`] of a list of another number of documents.
-pub fn nest(base: &str, text: impl AsRef<[u8]>) -> Result<String, Refusal> {
-    let text = text.as_ref();
+/// The answer of a command that is given a text, and another before it.
+fn answer_by_two(
+    command: library::CommandOfTwo,
+    first: &str,
+    text: &[u8],
+) -> Result<String, Refusal> {
     answer(text.len(), |room, needed| {
         // SAFETY: as in `answer_by`.
         unsafe {
-            library::utoipa_nest(
-                base.as_ptr(),
-                base.len(),
+            command(
+                first.as_ptr(),
+                first.len(),
                 text.as_ptr(),
                 text.len(),
                 room.as_mut_ptr(),
@@ -256,4 +245,83 @@ pub fn nest(base: &str, text: impl AsRef<[u8]>) -> Result<String, Refusal> {
             )
         }
     })
+}
+
+/// A line without its line feed.
+fn line(answer: Result<String, Refusal>) -> Result<String, Refusal> {
+    answer.map(|mut line| {
+        line.pop();
+        line
+    })
+}
+
+/// Reads a Server Object (OpenAPI 3.1, section 4.8.5) and writes it.
+///
+/// # Errors
+///
+/// Fails with why the text has no answer: it is no JSON text, it holds a fraction, it is no such object, or memory ran out.
+pub fn server(text: impl AsRef<[u8]>) -> Result<String, Refusal> {
+    line(answer_by(library::utoipa_server, text.as_ref()))
+}
+
+/// Reads a Schema Object, or a reference to one (section 4.8.24), and writes it.
+///
+/// # Errors
+///
+/// As [`server`].
+pub fn schema(text: impl AsRef<[u8]>) -> Result<String, Refusal> {
+    line(answer_by(library::utoipa_schema, text.as_ref()))
+}
+
+/// Reads an OpenAPI Object (section 4.8.1) and writes it.
+///
+/// # Errors
+///
+/// As [`server`].
+pub fn document(text: impl AsRef<[u8]>) -> Result<String, Refusal> {
+    line(answer_by(library::utoipa_document, text.as_ref()))
+}
+
+/// Reads a list of OpenAPI documents and writes what they are merged into.
+///
+/// # Errors
+///
+/// As [`server`], and with [`Refusal::Empty`] of a list of no documents.
+pub fn merge(text: impl AsRef<[u8]>) -> Result<String, Refusal> {
+    line(answer_by(library::utoipa_merge, text.as_ref()))
+}
+
+/// Reads a list of two OpenAPI documents and writes the first with the second nested into it, its paths behind the base.
+///
+/// # Errors
+///
+/// As [`server`], and with [`Refusal::Count`] of a list of another number of documents.
+pub fn nest(base: &str, text: impl AsRef<[u8]>) -> Result<String, Refusal> {
+    line(answer_by_two(library::utoipa_nest, base, text.as_ref()))
+}
+
+/// Tells what is found in a text that is to be an OpenAPI Object, in lines `NAME: POINTER: WHAT`: each place that does not fit, is read otherwise
+/// than it was meant, is dropped where the text is read and written again, or refers to nothing; or that the text is no JSON. Empty where
+/// nothing is found.
+///
+/// ```
+/// let found = utoipa_proved::check("api.json", r#"{"openapi":"3.1.0","info":{"title":"t"},"paths":{}}"#);
+/// assert_eq!(found.as_deref(), Ok("api.json: /info: the member `version` is required\n"));
+/// ```
+///
+/// # Errors
+///
+/// Fails with [`Refusal::Memory`] alone.
+pub fn check(name: &str, text: impl AsRef<[u8]>) -> Result<String, Refusal> {
+    answer_by_two(library::utoipa_check, name, text.as_ref())
+}
+
+/// Reads a list of OpenAPI documents and tells what merging them drops: a line for each value in whose place another document decides, with its
+/// place, a JSON Pointer, and the numbers of both documents, counted from 0. Empty where nothing is dropped.
+///
+/// # Errors
+///
+/// As [`server`].
+pub fn conflicts(text: impl AsRef<[u8]>) -> Result<String, Refusal> {
+    answer_by(library::utoipa_conflicts, text.as_ref())
 }

@@ -1,6 +1,6 @@
 //! Calls of each function. What is expected is worked by hand from docs/FORMAT.md; an example of the repository is written as its own tree.
 
-use utoipa_proved::{document, merge, nest, schema, server, Refusal};
+use utoipa_proved::{check, conflicts, document, merge, nest, schema, server, Refusal};
 
 const FIRST: &str = r#"{"openapi":"3.1.0","info":{"version":"1","title":"a"},"paths":{"/a":{"get":{"responses":{}}}}}"#;
 const SECOND: &str = r#"{"openapi":"3.1.0","info":{"version":"2","title":"b"},"paths":{"/b":{},"/a":{"post":{"responses":{}}}}}"#;
@@ -53,6 +53,25 @@ fn a_document_is_nested() {
     let wanted =
         with_paths(r#""/a":{"get":{"responses":{}}},"/v1/a":{"post":{"responses":{}}},"/v1/b":{}"#);
     assert_eq!(nest("/v1", format!("[{FIRST},{SECOND}]")), Ok(wanted));
+}
+
+#[test]
+fn what_is_found_is_told() {
+    let text = r#"{"openapi":"3.1.0","info":{"title":"t"},"paths":{}}"#;
+    let found = "a.json: /info: the member `version` is required\n".to_owned();
+    assert_eq!(check("a.json", text), Ok(found));
+    assert_eq!(check("a.json", FIRST), Ok(String::new()));
+    let broken = "a.json:1:1: this is no JSON\n".to_owned();
+    assert_eq!(check("a.json", "["), Ok(broken));
+}
+
+#[test]
+fn what_merging_drops_is_told() {
+    let dropped = "/info: document 1's value is dropped, since document 0 decides\n".to_owned();
+    assert_eq!(conflicts(format!("[{FIRST},{SECOND}]")), Ok(dropped));
+    assert_eq!(conflicts(format!("[{FIRST},{FIRST}]")), Ok(String::new()));
+    assert_eq!(conflicts("[]"), Ok(String::new()));
+    assert_eq!(conflicts("{}"), Err(Refusal::Kind));
 }
 
 #[test]

@@ -5,7 +5,7 @@
 use std::env;
 use std::io::{self, Read, Write};
 use std::process::{exit, Command, Stdio};
-use utoipa_proved::{document, merge, nest, schema, server, STACK};
+use utoipa_proved::{check, conflicts, document, merge, nest, schema, server, STACK};
 
 /// How many levels of objects and lists a text can nest.
 const LEVELS: usize = 127;
@@ -128,7 +128,7 @@ fn texts(command: &str) -> Vec<String> {
             .iter()
             .map(|it| nested(LEVELS, *it, ("", "")))
             .collect(),
-        "document" => documents(LEVELS).collect(),
+        "document" | "check" => documents(LEVELS).collect(),
         _ => documents(LEVELS - 1).map(list).collect(),
     }
 }
@@ -142,10 +142,12 @@ fn answer(command: &str) -> Result<(), Box<dyn std::error::Error>> {
         "schema" => schema(&text),
         "document" => document(&text),
         "merge" => merge(&text),
-        _ => nest("/v1", &text),
+        "nest" => nest("/v1", &text),
+        "check" => check("", &text),
+        _ => conflicts(&text),
     }?;
     assert!(
-        text.starts_with('[') || answer == text,
+        text.starts_with('[') || command == "check" || answer == text,
         "not as it has to be: {answer}"
     );
     Ok(())
@@ -199,7 +201,15 @@ fn main() {
             exit(i32::from(answer(command).is_err()));
         }
     }
-    for command in ["server", "schema", "document", "merge", "nest"] {
+    for command in [
+        "server",
+        "schema",
+        "document",
+        "merge",
+        "nest",
+        "check",
+        "conflicts",
+    ] {
         let (kib, text) = texts(command)
             .into_iter()
             .map(|it| (least(command, &it), it))

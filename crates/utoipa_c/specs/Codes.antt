@@ -23,13 +23,21 @@ code_of Write = 13
 abbrev pub HasRoom : (line old new : List ℕ) → Type 0
 HasRoom line old new = new ≡ line ++ drop (length line) old
 
--- code 0: the answer to the text stands at the front of the room, and this is its length
-abbrev pub IsAnswered : Request → (text old new : List ℕ) → (needed : ℕ) → Type 0
-IsAnswered r text old new needed = (line : List ℕ) × IsAnswer r text line × (needed ≡ length line) × HasRoom line old new
+-- code 0: an answer, of which P holds, stands at the front of the room, and this is its length
+abbrev pub IsWritten : (P : List ℕ → Type 0) → (old new : List ℕ) → (needed : ℕ) → Type 0
+IsWritten P old new needed = (line : List ℕ) × P line × (needed ≡ length line) × HasRoom line old new
 
--- code 1: the text has an answer of this length, for which the room is too small
+-- code 1: an answer, of which P holds, has this length, for which the room is too small
+abbrev pub IsTooLong : (P : List ℕ → Type 0) → (room : List ℕ) → (needed : ℕ) → Type 0
+IsTooLong P room needed = (line : List ℕ) × P line × (needed ≡ length line) × (length room < length line)
+
+-- the answer of a request to the text is written
+abbrev pub IsAnswered : Request → (text old new : List ℕ) → (needed : ℕ) → Type 0
+IsAnswered r text old new needed = IsWritten (IsAnswer r text) old new needed
+
+-- the answer of a request to the text is too long
 abbrev pub IsToldOf : Request → (text room : List ℕ) → (needed : ℕ) → Type 0
-IsToldOf r text room needed = (line : List ℕ) × IsAnswer r text line × (needed ≡ length line) × (length room < length line)
+IsToldOf r text room needed = IsTooLong (IsAnswer r text) room needed
 
 -- any other code: that of a refusal, for which the text gives cause
 abbrev pub IsRefused : Request → (text : List ℕ) → (code : ℕ) → Type 0

@@ -1,4 +1,5 @@
-//! The commands of `utoipa_doc` for C: each takes a text and the room for its answer, and tells how it ended by a code.
+//! The commands of `utoipa_doc` for C, and what is found in a document or dropped where documents are merged: each takes a text and the room for
+//! its answer, and tells how it ended by a code.
 //!
 //! `bindings/c/utoipa.h` declares them for C. The codes are those of `specs/Codes.antt`: 0 where the answer is written, 1 where the room
 //! is too small for it, and one for each refusal. Nothing is written to the room but where the code is 0.
@@ -6,10 +7,16 @@
 
 ghost use Rattle.std.specs.Prelude.{◌≡◌, ◌≢◌, ◌<◌, ◌↔◌, length};
 ghost use Rattle.std.specs.Str.{IsUtf8};
-ghost use Rattle.utoipa_c.specs.Codes.{code_of, HasRoom, IsAnswered, IsRefused, IsToldOf};
+ghost use Rattle.utoipa_c.specs.Codes.{code_of, HasRoom, IsAnswered, IsRefused, IsToldOf, IsTooLong, IsWritten};
+ghost use Rattle.utoipa_c.specs.Documents.{document_kind, IsNoList};
+ghost use Rattle.utoipa_c.specs.Conflicts.{AreConflicts};
 ghost use Rattle.utoipa_command.specs.Commands.{server, schema, document, merge, nest, request_of};
+ghost use Rattle.utoipa_findings.specs.Told.{IsChecked};
+
+mod told;
 
 use std::alloc::Global;
+use told::{dropped, found};
 use utoipa_command::answer::answer;
 use utoipa_command::{Command, Refusal};
 
@@ -18,6 +25,8 @@ const DONE: u8 = 0;
 const ROOM: u8 = 1;
 
 const BASE: u8 = 11;
+
+const NAME: u8 = 14;
 
 // The code of a refusal.
 fn code(refusal: Refusal) -> u8
@@ -159,5 +168,68 @@ pub extern "C" fn utoipa_nest(
     match str::from_utf8(base) {
         Ok(base) => serve(alloc, Command::Nest(base), text, room, needed),
         Err(_) => BASE,
+    }
+}
+
+// Tells what is found in a text.
+fn tell_found(alloc: Global, name: &str, text: &[u8], room: &mut [u8], needed: &mut usize) -> u8
+    ensures done { result ≡ 0 → IsWritten (IsChecked document_kind name.now text.now) room.old room.new needed.new }
+    ensures room { result ≡ 1 → IsTooLong (IsChecked document_kind name.now text.now) room.old needed.new }
+    ensures refused { result ≢ 0 → result ≢ 1 → result ≡ 2 }
+    ensures untouched { result ≢ 0 → room.new ≡ room.old }
+    ensures unsaid { result ≢ 0 → result ≢ 1 → needed.new ≡ needed.old }
+{
+    match found(alloc, name, text) {
+        Ok(lines) => put(lines.as_bytes(), room, needed),
+        Err(_) => code(Refusal::Memory),
+    }
+}
+
+/// Tells what is found in a text that is to be an OpenAPI Object (section 4.8.1): a line for each place that does not fit, is read otherwise than
+/// it was meant, is dropped where it is read and written again, or refers to nothing; or the line that tells that the text is no JSON. Each
+/// line begins with the name. Nothing is written where nothing is found.
+///
+/// The codes are those of [`utoipa_server`] up to 2, and 14 where the name is not UTF-8: no text is refused.
+#[unsafe(no_mangle)]
+pub extern "C" fn utoipa_check(
+    alloc: Global,
+    name: &[u8],
+    text: &[u8],
+    room: &mut [u8],
+    needed: &mut usize,
+) -> u8
+    ensures done { result ≡ 0 → IsWritten (IsChecked document_kind name.now text.now) room.old room.new needed.new }
+    ensures room { result ≡ 1 → IsTooLong (IsChecked document_kind name.now text.now) room.old needed.new }
+    ensures name { (result ≡ 14) ↔ (¬ IsUtf8 name.now) }
+    ensures refused { result ≢ 0 → result ≢ 1 → result ≢ 14 → result ≡ 2 }
+    ensures untouched { result ≢ 0 → room.new ≡ room.old }
+    ensures unsaid { result ≢ 0 → result ≢ 1 → needed.new ≡ needed.old }
+{
+    match str::from_utf8(name) {
+        Ok(name) => tell_found(alloc, name, text, room, needed),
+        Err(_) => NAME,
+    }
+}
+
+/// Tells what merging a list of OpenAPI documents drops: a line for each value of a document in whose place another document decides, with its
+/// place in the document, and both by their numbers, counted from 0. Nothing is written where nothing is dropped.
+///
+/// The codes are those of [`utoipa_server`].
+#[unsafe(no_mangle)]
+pub extern "C" fn utoipa_conflicts(
+    alloc: Global,
+    text: &[u8],
+    room: &mut [u8],
+    needed: &mut usize,
+) -> u8
+    ensures done { result ≡ 0 → IsWritten (AreConflicts text.now) room.old room.new needed.new }
+    ensures room { result ≡ 1 → IsTooLong (AreConflicts text.now) room.old needed.new }
+    ensures refused { result ≢ 0 → result ≢ 1 → IsNoList text.now result }
+    ensures untouched { result ≢ 0 → room.new ≡ room.old }
+    ensures unsaid { result ≢ 0 → result ≢ 1 → needed.new ≡ needed.old }
+{
+    match dropped(alloc, text) {
+        Ok(lines) => put(lines.as_bytes(), room, needed),
+        Err(refusal) => code(refusal),
     }
 }

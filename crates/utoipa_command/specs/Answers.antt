@@ -166,7 +166,7 @@ pub record IsRewritten (k : Kind) (t : Data) (line : List ℕ) : Type 0 where
   pub reads : read k t ≡ Some document
   pub text : line ≡ line_of (write document)
 
--- ---- for private clauses: a text that is read as a document of a kind
+-- ---- a text that is read as a document of a kind
 
 -- the bytes have a plain tree, which is read as this document of the kind
 pub record IsReadAs (k : Kind) (bytes : List ℕ) (d : Doc) : Type 0 where

@@ -60,8 +60,9 @@ fn nested(alloc: Global, base: &str, text: &[u8]) -> Result<Vec<u8>, Refusal>
     }
 }
 
-// The document that a text is.
-fn document_of<T: Tree>(alloc: Global, text: &[u8]) -> Result<T, Refusal>
+/// The document of a type that a text is. Fails where the text is no JSON, where a number of it is a fraction, where it is no document of the
+/// type, and where memory runs out.
+pub fn document_of<T: Tree>(alloc: Global, text: &[u8]) -> Result<T, Refusal>
     ensures ok { IfOk result (λ document. IsReadAs T.kind text.now (T.doc document)) }
     ensures err { IfErr result (IsCauseOfText T.kind text.now) }
 {
