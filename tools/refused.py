@@ -1,9 +1,9 @@
 #!/usr/bin/env python3
 """Tries wrong bodies, many at a time: tells of each whether the prover refuses it.
 
-usage: tools/refused.py CRATE [EDIT..]     each EDIT a file of crates/CRATE/wrong-bodies or of crates/CRATE/must-fail;
-                                           with none, each file of crates/CRATE/wrong-bodies
-       tools/refused.py --apply            tries nothing: tells of each edit of each crate whether its lines stand in the source
+usage: tools/refused.py [--gate] CRATE [EDIT..]     each EDIT a file of crates/CRATE/wrong-bodies or of crates/CRATE/must-fail;
+                                                    with none, each file of crates/CRATE/wrong-bodies
+       tools/refused.py --apply                     tries nothing: tells of each edit of each crate whether its lines stand in the source
 
 An edit is written as those that `rt ci` tries. It is one wrong body, refused where the prover refuses a function that it
 changes, or, where it changes the text of a type, any function. One called each_.. changes many functions, each line of it
@@ -13,7 +13,8 @@ A round checks a copy of the crate with as many bodies as go together: no two of
 function that calls a refused one is not judged, so its body goes into the next round. Ends with status 1 where a body is
 not refused or can't be tried, or where a function is refused that no body changes. A body takes five to fifteen seconds of
 a processor, and each round one to three minutes before the first. Only the functions that the bodies change are checked, by
-the libraries below, which have to be built; the copy takes over what a check of the crate kept.
+the libraries below, which have to be built; the copy takes over what a check of the crate kept. With --gate the libraries
+that ./check has just left are taken.
 """
 import collections
 import glob
@@ -24,6 +25,8 @@ import shutil
 import subprocess
 import sys
 import tempfile
+
+import part
 
 ROOT = os.path.dirname(os.path.dirname(os.path.abspath(__file__)))
 CRATES = os.path.join(ROOT, "crates")
@@ -44,6 +47,7 @@ def type_named(line):
     kind, taken, named = re.match(r"(?:pub )?(impl|trait)(?:<(.*?)>)? (.*?)[:{]", line).groups()
     variables = re.findall(r"(?:^|, )'?(\w+)", taken or "") if kind == "impl" else []
     of_trait, _, of_type = named.replace("&", "Ref ").replace("[", "Slice ").rpartition(" for ")
+    of_trait = re.sub(r"\(([^()]*)\)", lambda it: " Tuple%d %s " % (it[1].count(",") + 1, it[1]) if it[1] else " Unit ", of_trait)
     if of_type.startswith("("):
         # The commas between the items, not those inside of one.
         outer = re.sub(r"<.*?>", "", of_type)
@@ -161,6 +165,26 @@ def copy_with_libraries(crate, room):
     return os.path.join(room, "crates", crate)
 
 
+def copy_alone(crate, room):
+    """Copies a crate, and returns the copy's folder."""
+    folder = os.path.join(room, "crates", crate)
+    shutil.copytree(os.path.join(CRATES, crate), folder, ignore=shutil.ignore_patterns("out"))
+    return folder
+
+
+def words_of_check(crate, is_gate):
+    """The command that checks a crate in its folder."""
+    if not is_gate:
+        return ["rt", "check", "--jobs", "1"]
+    listed = part.crates_listed()
+    names = part.with_all_below(crate, listed, [])
+    lacking = [it for it in names if it != crate and not part.is_of_gate(it)]
+    if lacking:
+        sys.exit("refused: ./check has left no library of %s" % ", ".join(lacking))
+    is_program = os.path.isfile(os.path.join(CRATES, crate, "src", "main.rt"))
+    return [*part.words_over_libraries("check", crate, listed, names), "src/main.rt" if is_program else "src/lib.rt", "--empty-contracts"]
+
+
 def narrowed(crate, bodies):
     """Returns the words that have only the bodies' functions checked, where each body changes some."""
     if not all(body.functions for body in bodies):
@@ -168,10 +192,10 @@ def narrowed(crate, bodies):
     return [word for body in bodies for it in body.functions for word in ("--only", "%s::%s" % (crate, it))]
 
 
-def check_with(crate, bodies):
+def check_with(crate, bodies, is_gate):
     """Checks a copy of a crate with the bodies in it. Returns what is said of each function, and all that is said."""
     with tempfile.TemporaryDirectory() as room:
-        folder = copy_with_libraries(crate, room)
+        folder = copy_alone(crate, room) if is_gate else copy_with_libraries(crate, room)
         for changed in {file for body in bodies for file, _ in body.lines}:
             text = lines_of(os.path.join(folder, changed))
             for (file, at), new in [it for body in bodies for it in body.lines.items()]:
@@ -180,13 +204,20 @@ def check_with(crate, bodies):
             with open(os.path.join(folder, changed), "w") as source:
                 source.write("\n".join(text))
         how = {"stdout": subprocess.PIPE, "stderr": subprocess.STDOUT, "text": True}
-        said = subprocess.run(["rt", "check", "--jobs", "1", *narrowed(crate, bodies)], cwd=folder, **how).stdout
+        said = subprocess.run([*words_of_check(crate, is_gate), *narrowed(crate, bodies)], cwd=folder, **how).stdout
     found = dict(re.findall(r"^fn %s::(\S+): (.*)" % crate, said, re.M))
     for function, words in found.items():
         waits = re.search(r"which (is|are) not proved|waits for", words)
         if re.match(r"not proved|no proof", words) and not waits:
             found[function] = "refused"
     return found, said
+
+
+def that_do_not_compile(said, bodies, standing):
+    """The bodies in whose functions the front end tells an error, each with what it tells."""
+    errors = re.findall(r"^(?:\./)?(src/\S+\.rt):(\d+):\d+: (error.*)", said, re.M)
+    told = {standing.get((file, int(line) - 1)): error for file, line, error in errors}
+    return [(body, told[it]) for body in bodies for it in body.functions if it in told]
 
 
 def all_apply():
@@ -205,14 +236,17 @@ def all_apply():
 
 
 def main():
-    if len(sys.argv) < 2:
-        sys.exit(__doc__)
-    if sys.argv[1:] == ["--apply"]:
+    words = sys.argv[1:]
+    if words == ["--apply"]:
         return all_apply()
-    crate = sys.argv[1]
+    is_gate = words[:1] == ["--gate"]
+    words = words[1:] if is_gate else words
+    if not words or words[0].startswith("-"):
+        sys.exit(__doc__)
+    crate = words[0]
     standing, cycles = functions_of(crate)
     left, refused, faults = [], 0, 0
-    for edit in sys.argv[2:] or sorted(glob.glob(os.path.join(CRATES, crate, "wrong-bodies/*.edit"))):
+    for edit in words[1:] or sorted(glob.glob(os.path.join(CRATES, crate, "wrong-bodies/*.edit"))):
         bodies = bodies_of(crate, edit, standing)
         if isinstance(bodies, str):
             print("NOT TRIED %s: %s" % (edit, bodies))
@@ -222,9 +256,13 @@ def main():
     at_once = len(left)
     while left:
         chosen = that_go_together(left, cycles)[:at_once]
-        found, said = check_with(crate, chosen)
+        found, said = check_with(crate, chosen, is_gate)
         judged = []
-        for body in chosen:
+        for body, error in [] if found else that_do_not_compile(said, chosen, standing):
+            print("DOES NOT COMPILE %s: %s" % (body.name, error))
+            faults += body not in judged
+            judged.append(body)
+        for body in [] if judged else chosen:
             of_body = {found.get(it, "no verdict") for it in body.functions or found}
             if "refused" in of_body:
                 print("refused", body.name)
