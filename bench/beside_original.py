@@ -1,5 +1,5 @@
 #!/usr/bin/env python3
-"""Times the command `utoipa_doc` beside the original crate, on the same texts, and prints the table of docs/PERFORMANCE.md on that.
+"""Times the command `utoipa_doc` beside the original crate, on the same texts, and prints the table of docs/MEASURED.md on that.
 
 usage: bench/beside_original.py [--original FOLDER] [--registry FOLDER] [--work FOLDER] [--program FILE]
                                 [--runs N] [--processor N] [--up-to MEGABYTES]

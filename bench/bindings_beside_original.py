@@ -1,5 +1,5 @@
 #!/usr/bin/env python3
-"""Times the library for C, called from Rust, beside the original crate in one program, and prints the table of docs/PERFORMANCE.md on that.
+"""Times the library for C, called from Rust, beside the original crate in one program, and prints the table of docs/MEASURED.md on that.
 
 usage: bench/bindings_beside_original.py LIBRARY [--original FOLDER] [--registry FOLDER] [--work FOLDER]
                                          [--turns N] [--processor N]

@@ -1,5 +1,5 @@
 #!/usr/bin/env python3
-"""Times what tells conflicts, beside merging, and prints the table of docs/PERFORMANCE.md on that.
+"""Times what tells conflicts, beside merging, and prints the table of docs/MEASURED.md on that.
 
 usage: bench/conflicts.py [DIVISOR]      after ./check, which builds the programs; with a number, as 10, the script is tried with so many times
                                          fewer documents

@@ -1,5 +1,5 @@
 #!/usr/bin/env python3
-"""Times the command `utoipa_doc document` on documents of growing size, and prints the tables of docs/PERFORMANCE.md.
+"""Times the command `utoipa_doc document` on documents of growing size, and prints tables of that.
 
 usage: bench/documents.py [MEGABYTES..]      1 10 30 where none is given; after ./check, which builds the
                                              programs that it runs

@@ -1,5 +1,5 @@
 #!/usr/bin/env python3
-"""Times merging of generated documents, and prints the tables of docs/PERFORMANCE.md on merging.
+"""Times merging of generated documents, and prints tables of merging.
 
 usage: bench/merging.py [DIVISOR]      after ./build; with a number, as 10, the script is tried with so many times fewer documents
 

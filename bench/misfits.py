@@ -1,5 +1,5 @@
 #!/usr/bin/env python3
-"""Times what looks through a tree, on documents with a fault at the end, and prints the table of docs/PERFORMANCE.md on that.
+"""Times what looks through a tree, on documents with a fault at the end, and prints the table of docs/MEASURED.md on that.
 
 usage: bench/misfits.py [MEGABYTES..]      1 10 where none is given; after ./check, which builds the programs that it runs
 

@@ -1,5 +1,5 @@
 #!/usr/bin/env python3
-"""Times the command `utoipa_doc` on schemas of growing size, and prints the table of docs/PERFORMANCE.md.
+"""Times the command `utoipa_doc` on schemas of growing size, and prints a table of that.
 
 usage: bench/reading.py [--beside PROGRAM] [--runs N] [MEGABYTES..]      1 10 30 where none is given;
                                                                       after ./build
