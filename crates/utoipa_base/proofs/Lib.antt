@@ -51,3 +51,4 @@ pub mod TokenMembers
 pub mod TokenMaps
 pub mod TokenTables
 pub mod TokenOrderedMaps
+pub mod Fronts

@@ -1,5 +1,7 @@
 -- What a fault of reading says.
 use Rattle.std.specs.Prelude.{◌≡◌, Option, None, Some, Result, Ok, Err}
+use Rattle.serde_json.specs.Errors.{IsMemory}
+use Rattle.serde_json.specs.declared.error.Error.{Error}
 use Rattle.utoipa_base.specs.Docs.{Doc}
 use Rattle.utoipa_base.specs.declared.fault.ReadFault.{ReadFault}
 use Rattle.utoipa_base.specs.declared.fault.ReadFault.TheVariants.{Memory, Fraction, Missing, Kind, Word, Alternative, Text}
@@ -19,3 +21,7 @@ abbrev pub fitting : {T : Type 0} → Result T ReadFault → Result (Option T) R
 fitting (Ok v) = Ok (Some v)
 fitting (Err Memory) = Err Memory
 fitting (Err e) = Ok None
+
+-- the fault of an error of the parser of JSON texts
+abbrev pub IsFaultOf : Error → ReadFault → Type 0
+IsFaultOf e f = (IsMemory e → f ≡ Memory) × (¬ IsMemory e → f ≡ Text)

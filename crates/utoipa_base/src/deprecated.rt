@@ -1,3 +1,4 @@
+//! Whether something should no longer be used.
 ghost use Rattle.std.specs.Prelude.{false};
 ghost use Rattle.utoipa_base.specs.Kinds.{flag};
 ghost use Rattle.utoipa_base.specs.Flags.{deprecated_doc};

@@ -1,3 +1,4 @@
+//! Specification extensions.
 ghost use Rattle.std.specs.Prelude.{◌≡◌, ◌↔◌, ℕ, List, false, option_map, IfOk, OnOk, OnErr, IsTrue, string_bytes};
 ghost use Rattle.std.specs.Iterator.{IsFinite, Drains};
 ghost use Rattle.std.specs.Option.{option_or};

@@ -1,12 +1,13 @@
+//! Why a tree or a text is refused as a document.
 ghost use Rattle.std.specs.Prelude.{◌≡◌};
-ghost use Rattle.utoipa_base.specs.Faults.{fitting as fitting_of};
+ghost use Rattle.utoipa_base.specs.Faults.{fitting as fitting_of, IsFaultOf};
 ghost use Rattle.utoipa_base.specs.declared.fault.ReadFault.TheVariants.{Memory};
 
 use std::alloc::{AllocError, AllocFailed};
 use thiserror::Error;
 
 /// Why a tree or a text was refused as a document.
-#[derive(Debug, Drop, Error)]
+#[derive(Clone, Copy, Debug, Drop, Error, PartialEq, Eq)]
 pub enum ReadFault {
     /// A request for memory was refused.
     #[error("out of memory")]
@@ -44,6 +45,20 @@ impl<T: Drop> From<AllocFailed<T>> for ReadFault {
 
     fn from(_error: AllocFailed<T>) -> ReadFault {
         ReadFault::Memory
+    }
+}
+
+/// The fault of a text that the parser of JSON refused: `Memory` where memory ran out, else `Text`. Where in the text the parser stood is
+/// told by the error alone, by its line and its column.
+impl From<serde_json::Error> for ReadFault {
+    ghost from_gives = { λ error fault. IsFaultOf error fault };
+
+    fn from(error: serde_json::Error) -> ReadFault {
+        if error.is_memory() {
+            ReadFault::Memory
+        } else {
+            ReadFault::Text
+        }
     }
 }
 

@@ -66,7 +66,7 @@ pub use open_table::table_from_tokens;
 pub use ordered_map::OrderedMap;
 pub use pending::PendingExtensions;
 pub use readings::{Counted, Readings};
-pub use refs::{Ref, RefBuilder, RefOr};
+pub use refs::{ComponentKey, ComponentMap, Ref, RefBuilder, RefOr};
 pub use required::Required;
 pub use rows::{clone_option, row_default, row_option, row_or_null, row_required};
 pub use same_trees::{same_members, same_tree};

@@ -1,3 +1,4 @@
+//! The bounds of schemas.
 ghost use Rattle.std.specs.Prelude.{◌≡◌};
 ghost use Rattle.utoipa_base.specs.Kinds.{numeral};
 ghost use Rattle.utoipa_base.specs.Numbers.{number_doc};

@@ -1,4 +1,5 @@
-ghost use Rattle.std.specs.Prelude.{◌≡◌, ◌++◌, [], IfOk, string_bytes};
+//! References, and places in which a reference or a value stands.
+ghost use Rattle.std.specs.Prelude.{◌≡◌, ◌++◌, [], IfOk, option_map, string_bytes};
 ghost use Rattle.utoipa_base.specs.Kinds.{named, ref_or, reference_object};
 ghost use Rattle.utoipa_base.specs.OfKind.{reference_of_kind, ref_or_of_kind};
 ghost use Rattle.utoipa_base.specs.Refs.{reference_doc, ref_or_doc};
@@ -15,8 +16,11 @@ use serde_json::Value;
 use std::alloc::{AllocError, Global};
 
 mod builder;
+mod component;
 
 pub use builder::RefBuilder;
+use component::component_at;
+pub use component::{ComponentKey, ComponentMap};
 
 // The rows of a reference, in the order of the members' names: mark, member, field.
 macro_rules! ref_rows {
@@ -54,7 +58,7 @@ pub struct Ref {
 }
 
 impl Ref {
-    ghost use Rattle.utoipa_base.specs.References.{schema_location, response_location, StandsAlone, built_reference};
+    ghost use Rattle.utoipa_base.specs.References.{schema_location, response_location, StandsAlone, built_reference, component_of, key_of};
 
     /// A reference to a URI, with nothing beside it. Takes no memory.
     pub fn new(alloc: Global, ref_location: String) -> Ref
@@ -86,6 +90,16 @@ impl Ref {
         ensures { IfOk result (λ r. (string_bytes r.ref_location ≡ response_location response_name.now) × StandsAlone r) }
     {
         Ok(Ref::new(alloc, joined(alloc, RESPONSES, response_name)?))
+    }
+
+    /// The component of the same document that the reference leads to: where `$ref` is `#/components/`, the field of a map, `/` and a name.
+    ///
+    /// There is none where it leads elsewhere, into a component, or to a name that is empty or has a `/`, `~` or `%`: such a name stands
+    /// otherwise in a reference (RFC 6901, sections 3 and 6), and components have none (OpenAPI 3.1, section 4.8.7).
+    pub fn component(&self) -> Option<ComponentKey<'_>>
+        ensures { option_map key_of result ≡ component_of (string_bytes self.now.ref_location) }
+    {
+        component_at(&self.ref_location)
     }
 
     /// A builder that begins with a reference to the empty URI. Takes no memory.

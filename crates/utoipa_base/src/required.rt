@@ -1,3 +1,4 @@
+//! Whether something has to be sent.
 ghost use Rattle.std.specs.Prelude.{false};
 ghost use Rattle.utoipa_base.specs.Kinds.{flag};
 ghost use Rattle.utoipa_base.specs.Flags.{required_doc};

@@ -1,3 +1,4 @@
+//! Whether two trees are equal.
 ghost use Rattle.std.specs.Prelude.{◌≡◌, ◌↔◌, false, IsTrue};
 ghost use Rattle.serde_json.specs.Find.{is_float};
 ghost use Rattle.serde_json.specs.View.{view, number_view, items_view, members_view};

@@ -1,3 +1,4 @@
+//! Types that are read from JSON trees and texts and written as such.
 ghost use Rattle.std.specs.Prelude.{◌≡◌, ◌≤◌, ◌<◌, ◌+◌, ◌++◌, ◌∷◌, ◌↔◌, length, true, false, IsErrOf, Some, IfOk, IfErr, OnOk};
 ghost use Rattle.json.specs.Reads.{token_of};
 ghost use Rattle.serde_json.specs.Data.{Data};
@@ -72,7 +73,8 @@ pub trait Tree: Emit {
 
     /// Reads the tree.
     ///
-    /// Answers `Fraction` exactly where the tree holds a fraction, before any other fault and without memory, and never
+    /// Fails with `Fraction` exactly where the tree holds a fraction, before any other fault and without memory; else where the tree is
+    /// no value of the type, with the fault of a member that does not fit, and with `Memory` where memory runs out. Never fails with
     /// `Text`.
     final fn from_value(alloc: Global, tree: &Value) -> Result<Self, ReadFault>
         ensures fraction { IsErrOf result ReadFault.Fraction ↔ (has_float (view tree.now) ≡ true) }
@@ -89,7 +91,8 @@ pub trait Tree: Emit {
     /// Reads the tree as [`Tree::from_value`] does, and counts the schema readings.
     ///
     /// There are at most as many readings as the tree has values, also where it is refused, and at least as many as the
-    /// document has schemas, up to the greatest `u64`. Where the tree holds a fraction there is none.
+    /// document has schemas, up to the greatest `u64`. Where the tree holds a fraction there is none. The outcome is a fault exactly where
+    /// and as [`Tree::from_value`] fails.
     final fn from_value_counted(alloc: Global, tree: &Value) -> Counted<Self>
         ensures fraction { IsErrOf result.outcome ReadFault.Fraction ↔ (has_float (view tree.now) ≡ true) }
         ensures ok { IfOk result.outcome (λ v. read Self.kind (view tree.now) ≡ Some (Self.doc v)) }

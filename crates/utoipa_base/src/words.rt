@@ -50,7 +50,8 @@ pub trait Word: Drop {
 
 /// The value whose word the tree is.
 ///
-/// Answers `Word` with the name where the tree is a text that is no word, and `Kind` with the name where it is no text.
+/// Fails with `Word` and the name where the tree is a text that is no word, and with `Kind` and the name where it is no text. Takes no
+/// memory.
 #[tactic(auto, using(crate::proofs::ByWords::by_words))]
 pub fn read_word<W: Word>(tree: &Value, name: &'static str) -> Result<W, ReadFault>
     ensures ok { IfOk result (λ word. read (word_of W.vocabulary) (view tree.now) ≡ Some (word_doc (W.spelling word))) }

@@ -1,3 +1,4 @@
+//! What builds a reference.
 ghost use Rattle.std.specs.Prelude.{◌≡◌, [], Some, IfOk, String, string_bytes};
 ghost use Rattle.std.specs.declared.alloc.Global.{Global};
 ghost use Rattle.utoipa_base.specs.References.{schema_location, StandsAlone, IsGivenOrEmpty, built_reference};
