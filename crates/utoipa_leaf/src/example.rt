@@ -5,7 +5,7 @@ ghost use Rattle.utoipa_base.specs.Kinds.{named, example_object};
 use serde_json::Value;
 use std::alloc::{AllocError, Global};
 use utoipa_base::{
-    Documented, Emit, Extensions, JsonSink, Place, ReadFault, Readings, Tree, clone_table,
+    Documented, Emit, Extensions, JsonSink, Place, ReadFault, Readings, RefOr, Tree, clone_table,
     emit_table, from_fields, read_table, row_names, row_values,
 };
 
@@ -180,5 +180,16 @@ impl From<ExampleBuilder> for Example {
 
     fn from(builder: ExampleBuilder) -> Example {
         builder.build()
+    }
+}
+
+/// The value itself.
+impl From<Example> for RefOr<Example> {
+    ghost use Rattle.utoipa_base.specs.declared.refs.RefOr.TheVariants as places;
+
+    ghost from_gives = { λ value place. place ≡ places.T value };
+
+    fn from(value: Example) -> RefOr<Example> {
+        RefOr::T(value)
     }
 }

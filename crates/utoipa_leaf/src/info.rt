@@ -56,7 +56,7 @@ macro_rules! contact_rows {
 }
 
 /// A Contact Object (OpenAPI 3.1, section 4.8.3): whom to ask about an API.
-#[derive(Debug, Drop)]
+#[derive(Debug, Default, Drop)]
 pub struct Contact {
     /// The name of the person or the organization.
     pub name: Option<String>,
@@ -390,7 +390,7 @@ impl From<InfoBuilder> for Info {
 }
 
 /// Builds a [`Contact`].
-#[derive(Debug, Drop)]
+#[derive(Debug, Default, Drop)]
 pub struct ContactBuilder {
     contact: Contact,
 }

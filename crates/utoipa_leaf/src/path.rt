@@ -1,9 +1,10 @@
 //! The words of paths and their parameters.
-ghost use Rattle.std.specs.Prelude.{refl};
+ghost use Rattle.std.specs.Prelude.{refl, Some};
 ghost use Rattle.utoipa_base.specs.Kinds.{word_of, http_method, parameter_in, parameter_style};
 
 use serde_json::Value;
 use std::alloc::{AllocError, Global};
+use std::fmt;
 use utoipa_base::{
     Documented, Emit, JsonSink, Place, ReadFault, Readings, Tree, Word, emit_word, read_word,
 };
@@ -29,6 +30,20 @@ pub enum HttpMethod {
     Patch,
     /// A TRACE operation: `trace`.
     Trace,
+}
+
+impl HttpMethod {
+    /// Every method, in the order of the list above.
+    pub const ALL: [HttpMethod; 8] = [
+        HttpMethod::Get,
+        HttpMethod::Post,
+        HttpMethod::Put,
+        HttpMethod::Delete,
+        HttpMethod::Options,
+        HttpMethod::Head,
+        HttpMethod::Patch,
+        HttpMethod::Trace,
+    ];
 }
 
 impl Word for HttpMethod {
@@ -69,6 +84,17 @@ impl Word for HttpMethod {
             HttpMethod::Patch => "patch",
             HttpMethod::Trace => "trace",
         }
+    }
+}
+
+/// The word.
+impl fmt::Display for HttpMethod {
+    ghost use Rattle.utoipa_leaf.specs.Path.{http_method_text};
+
+    ghost output = { λ word. Some (http_method_text word) };
+
+    fn fmt<W: fmt::Write>(&self, f: &mut fmt::Formatter<W>) -> fmt::Result {
+        f.write_str(self.as_text())
     }
 }
 
@@ -160,6 +186,17 @@ impl Word for ParameterIn {
             ParameterIn::Cookie => "cookie",
             ParameterIn::QueryString => "querystring",
         }
+    }
+}
+
+/// The word.
+impl fmt::Display for ParameterIn {
+    ghost use Rattle.utoipa_leaf.specs.Path.{parameter_in_text};
+
+    ghost output = { λ word. Some (parameter_in_text word) };
+
+    fn fmt<W: fmt::Write>(&self, f: &mut fmt::Formatter<W>) -> fmt::Result {
+        f.write_str(self.as_text())
     }
 }
 
@@ -262,6 +299,17 @@ impl Word for ParameterStyle {
             ParameterStyle::DeepObject => "deepObject",
             ParameterStyle::Cookie => "cookie",
         }
+    }
+}
+
+/// The word.
+impl fmt::Display for ParameterStyle {
+    ghost use Rattle.utoipa_leaf.specs.Path.{parameter_style_text};
+
+    ghost output = { λ word. Some (parameter_style_text word) };
+
+    fn fmt<W: fmt::Write>(&self, f: &mut fmt::Formatter<W>) -> fmt::Result {
+        f.write_str(self.as_text())
     }
 }
 

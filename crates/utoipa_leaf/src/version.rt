@@ -10,6 +10,7 @@ ghost use Rattle.utoipa_leaf.specs.Version.{version_text, version_doc, version_o
 
 use serde_json::Value;
 use std::alloc::{AllocError, Global};
+use std::fmt;
 use utoipa_base::{Documented, Emit, JsonSink, Place, ReadFault, Readings, Tree};
 
 /// The version of the OpenAPI Specification that a document follows: the field `openapi` of an OpenAPI Object (OpenAPI
@@ -24,8 +25,8 @@ pub enum OpenApiVersion {
 }
 
 impl OpenApiVersion {
-    // The version's text, as it is written.
-    fn as_text(self) -> &'static str
+    /// The version's text, as it is written.
+    pub fn as_text(self) -> &'static str
         ensures { result.now ≡ version_text self }
     {
         match self {
@@ -119,6 +120,15 @@ fn read_named(tree: &Value, name: &'static str) -> Result<OpenApiVersion, ReadFa
     match tree.as_str() {
         Some(text) => version_named(text).ok_or(ReadFault::Word(name)),
         None => Err(ReadFault::Kind(name)),
+    }
+}
+
+/// The version's text.
+impl fmt::Display for OpenApiVersion {
+    ghost output = { λ version. Some (version_text version) };
+
+    fn fmt<W: fmt::Write>(&self, f: &mut fmt::Formatter<W>) -> fmt::Result {
+        f.write_str(self.as_text())
     }
 }
 

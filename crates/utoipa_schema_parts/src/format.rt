@@ -9,6 +9,7 @@ ghost use Rattle.utoipa_schema_parts.specs.Format.{schema_format_doc, schema_for
 
 use serde_json::Value;
 use std::alloc::{AllocError, Global};
+use std::fmt;
 use utoipa_base::{
     Documented, Emit, JsonSink, Place, ReadFault, Readings, Tree, Word, emit_word, read_word,
 };
@@ -125,6 +126,17 @@ impl Word for KnownFormat {
             KnownFormat::RelativeJsonPointer => "relative-json-pointer",
             KnownFormat::Regex => "regex",
         }
+    }
+}
+
+/// The word.
+impl fmt::Display for KnownFormat {
+    ghost use Rattle.utoipa_schema_parts.specs.Format.{known_format_text};
+
+    ghost output = { λ word. Some (known_format_text word) };
+
+    fn fmt<W: fmt::Write>(&self, f: &mut fmt::Formatter<W>) -> fmt::Result {
+        f.write_str(self.as_text())
     }
 }
 

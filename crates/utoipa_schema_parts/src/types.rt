@@ -12,6 +12,7 @@ ghost use Rattle.utoipa_schema_parts.specs.Types.{TypeWords, schema_type_doc, sc
 
 use serde_json::Value;
 use std::alloc::{AllocError, Global};
+use std::fmt;
 use utoipa_base::{
     Documented, Emit, Empty, JsonSink, Omit, Place, ReadFault, Readings, Tree, Word, emit_word,
     list_from, read_word,
@@ -73,6 +74,17 @@ impl Word for TypeWord {
             TypeWord::Array => "array",
             TypeWord::Null => "null",
         }
+    }
+}
+
+/// The word.
+impl fmt::Display for TypeWord {
+    ghost use Rattle.utoipa_schema_parts.specs.Types.{type_word_text};
+
+    ghost output = { λ word. Some (type_word_text word) };
+
+    fn fmt<W: fmt::Write>(&self, f: &mut fmt::Formatter<W>) -> fmt::Result {
+        f.write_str(self.as_text())
     }
 }
 

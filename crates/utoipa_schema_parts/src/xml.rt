@@ -1,3 +1,4 @@
+//! How a property is written in XML.
 ghost use Rattle.std.specs.Prelude.{◌≡◌, ◌↔◌, IsTrue};
 ghost use Rattle.utoipa_base.specs.Kinds.{named, xml_object};
 ghost use Rattle.utoipa_schema_parts.specs.Xml.{xml_doc};
@@ -26,7 +27,7 @@ macro_rules! xml_rows {
 }
 
 /// An XML Object (OpenAPI 3.1, section 4.8.26): how a property is written in XML.
-#[derive(Debug, Drop, Eq, PartialEq)]
+#[derive(Debug, Default, Drop, Eq, PartialEq)]
 pub struct Xml {
     /// Whether the property is written as an attribute, in place of an element.
     pub attribute: Option<bool>,
@@ -106,7 +107,7 @@ impl Place for Xml {
 }
 
 /// Builds an [`Xml`].
-#[derive(Debug, Drop)]
+#[derive(Debug, Default, Drop)]
 pub struct XmlBuilder {
     xml: Xml,
 }

@@ -8,6 +8,7 @@ ghost use Rattle.utoipa_base.specs.Writing.{write};
 use crate::security::row_lists::row_values;
 use serde_json::Value;
 use std::alloc::{AllocError, Global};
+use std::fmt;
 use utoipa_base::{
     Deprecated, Documented, Emit, Extensions, JsonSink, Place, ReadFault, Readings, Tree, Word,
     clone_table, emit_table, emit_word, from_fields, read_table, read_word, row_names,
@@ -85,6 +86,17 @@ impl Word for HttpAuthScheme {
     }
 }
 
+/// The word.
+impl fmt::Display for HttpAuthScheme {
+    ghost use Rattle.utoipa_security.specs.Http.{auth_scheme_text};
+
+    ghost output = { λ word. Some (auth_scheme_text word) };
+
+    fn fmt<W: fmt::Write>(&self, f: &mut fmt::Formatter<W>) -> fmt::Result {
+        f.write_str(self.as_text())
+    }
+}
+
 impl Documented for HttpAuthScheme {
     ghost use Rattle.utoipa_security.specs.Http.{auth_scheme_doc};
 
@@ -141,7 +153,7 @@ macro_rules! http_rows {
 }
 
 /// A Security Scheme Object of the type `http` (OpenAPI 3.1, section 4.8.27), without its member `type`.
-#[derive(Debug, Drop)]
+#[derive(Debug, Default, Drop)]
 pub struct Http {
     /// The name of the authentication scheme.
     pub scheme: HttpAuthScheme,
@@ -227,7 +239,7 @@ impl Place for Http {
 }
 
 /// Builds an [`Http`].
-#[derive(Debug, Drop)]
+#[derive(Debug, Default, Drop)]
 pub struct HttpBuilder {
     http: Http,
 }

@@ -12,7 +12,7 @@ use utoipa_base::{Documented, Emit, JsonSink, Place, ReadFault, Readings, Same, 
 
 /// A Security Requirement Object (OpenAPI 3.1, section 4.8.30): names of security schemes, each with the scopes or roles
 /// that it takes. All of the schemes have to be met; where there is none, security is optional.
-#[derive(Debug, Drop)]
+#[derive(Debug, Drop, PartialEq, Eq)]
 pub struct SecurityRequirement {
     pub(crate) value: BTreeMap<String, Vec<String>>,
 }
@@ -63,6 +63,13 @@ impl SecurityRequirement {
         let listed = list_from(alloc, scopes)?;
         drop(self.value.insert(name, listed)?);
         Ok(self)
+    }
+
+    /// The scopes or roles that are required of each scheme, by the schemes' names.
+    pub fn as_map(&self) -> &BTreeMap<String, Vec<String>>
+        ensures { result.now.entries ≡ requirement_entries self.now }
+    {
+        &self.value
     }
 
     /// Whether both name the same schemes, with the same scopes in the same order.

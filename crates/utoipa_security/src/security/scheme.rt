@@ -20,7 +20,7 @@ use serde_json::Value;
 use std::alloc::{AllocError, Global};
 use utoipa_base::table::{OptionalField, OptionalValue};
 use utoipa_base::{
-    Deprecated, Documented, Emit, Extensions, JsonSink, Place, ReadFault, Readings, Tree,
+    Deprecated, Documented, Emit, Extensions, JsonSink, Place, ReadFault, Readings, RefOr, Tree,
     clone_extensions, clone_option, emit_table, read_table,
 };
 
@@ -198,5 +198,16 @@ impl Tree for SecurityScheme {
 impl Place for SecurityScheme {
     fn is_schema() -> bool {
         false
+    }
+}
+
+/// The value itself.
+impl From<SecurityScheme> for RefOr<SecurityScheme> {
+    ghost use Rattle.utoipa_base.specs.declared.refs.RefOr.TheVariants as places;
+
+    ghost from_gives = { λ value place. place ≡ places.T value };
+
+    fn from(value: SecurityScheme) -> RefOr<SecurityScheme> {
+        RefOr::T(value)
     }
 }

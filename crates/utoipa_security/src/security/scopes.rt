@@ -53,6 +53,13 @@ impl Scopes {
         Ok(Scopes { scopes })
     }
 
+    /// The description of each scope, by the scopes' names.
+    pub fn as_map(&self) -> &BTreeMap<String, String>
+        ensures { result.now.entries ≡ scopes_entries self.now }
+    {
+        &self.scopes
+    }
+
     /// The scopes with the given names and descriptions. The later of two equal names stays. The iterator has to end.
     /// Fails where memory runs out.
     pub fn from_pairs<I: Iterator<Item = (String, String)> + Drop>(
