@@ -195,3 +195,14 @@ impl From<ContentBuilder> for RefOr<Content> {
         RefOr::T(builder.build())
     }
 }
+
+/// The value itself.
+impl From<Content> for RefOr<Content> {
+    ghost use Rattle.utoipa_base.specs.declared.refs.RefOr.TheVariants as places;
+
+    ghost from_gives = { λ value place. place ≡ places.T value };
+
+    fn from(value: Content) -> RefOr<Content> {
+        RefOr::T(value)
+    }
+}

@@ -190,3 +190,14 @@ impl From<HeaderBuilder> for Header {
         builder.build()
     }
 }
+
+/// The value itself.
+impl From<Header> for RefOr<Header> {
+    ghost use Rattle.utoipa_base.specs.declared.refs.RefOr.TheVariants as places;
+
+    ghost from_gives = { λ value place. place ≡ places.T value };
+
+    fn from(value: Header) -> RefOr<Header> {
+        RefOr::T(value)
+    }
+}

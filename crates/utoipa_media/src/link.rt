@@ -7,7 +7,7 @@ use serde_json::Value;
 use std::alloc::{AllocError, Global};
 use std::collections::BTreeMap;
 use utoipa_base::{
-    Documented, Emit, Extensions, JsonSink, Place, ReadFault, Readings, Tree, clone_table,
+    Documented, Emit, Extensions, JsonSink, Place, ReadFault, Readings, RefOr, Tree, clone_table,
     emit_table, from_fields, put, read_table, row_names, row_values,
 };
 use utoipa_leaf::server::Server;
@@ -206,5 +206,16 @@ impl From<LinkBuilder> for Link {
 
     fn from(builder: LinkBuilder) -> Link {
         builder.build()
+    }
+}
+
+/// The value itself.
+impl From<Link> for RefOr<Link> {
+    ghost use Rattle.utoipa_base.specs.declared.refs.RefOr.TheVariants as places;
+
+    ghost from_gives = { λ value place. place ≡ places.T value };
+
+    fn from(value: Link) -> RefOr<Link> {
+        RefOr::T(value)
     }
 }

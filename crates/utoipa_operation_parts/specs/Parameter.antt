@@ -1,6 +1,8 @@
 -- The documents of parameters.
-use Rattle.std.specs.Prelude.{◌≡◌, [], None, option_map, String, string_bytes}
+use Rattle.std.specs.Prelude.{◌≡◌, [], Option, None, option_map, String, string_bytes}
 use Rattle.std.specs.declared.alloc.Global.{Global}
+use Rattle.serde_json.specs.Data.{Data}
+use Rattle.serde_json.specs.View.{view}
 use Rattle.utoipa_base.specs.Docs.{Doc, table_doc, no_docs, doc, flag_doc}
 use Rattle.utoipa_base.specs.Extensions.{extensions_view}
 use Rattle.utoipa_base.specs.Flags.{required_doc, deprecated_doc}
@@ -24,6 +26,10 @@ use Rattle.utoipa_operation_parts.specs.declared.parameter.ParameterBuilder.{Par
 -- the parameter of a builder so far
 abbrev pub built_parameter : ParameterBuilder → Parameter
 built_parameter b = b.parameter
+
+-- the tree of a parameter's example
+abbrev pub parameter_example : Parameter → Option Data
+parameter_example p = option_map view p.example
 
 -- the parameter stands in the path
 abbrev pub in_path : ParameterIn

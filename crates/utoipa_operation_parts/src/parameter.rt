@@ -1,7 +1,8 @@
 //! Parameters of operations.
-ghost use Rattle.std.specs.Prelude.{◌≡◌, IfOk, false, string_cmp};
+ghost use Rattle.std.specs.Prelude.{◌≡◌, IfOk, false, option_map, string_cmp};
 ghost use Rattle.std.specs.BTreeMap.{insert_entry};
 ghost use Rattle.std.specs.Iterator.{IsFinite, Drains};
+ghost use Rattle.serde_json.specs.View.{view};
 ghost use Rattle.utoipa_base.specs.Fill.{Pairs, put_each};
 ghost use Rattle.utoipa_base.specs.Kinds.{named, parameter_object};
 ghost use Rattle.utoipa_base.specs.declared.refs.RefOr.{RefOr};
@@ -72,7 +73,7 @@ pub struct Parameter {
 }
 
 impl Parameter {
-    ghost use Rattle.utoipa_operation_parts.specs.Parameter.{built_parameter, IsParameterOf, IsEmptyParameter, in_path, is_required};
+    ghost use Rattle.utoipa_operation_parts.specs.Parameter.{built_parameter, parameter_example, IsParameterOf, IsEmptyParameter, in_path, is_required};
 
     /// A parameter of that name that stands in the path and has to be sent, of which nothing else is said. Takes no memory.
     pub fn new(alloc: Global, name: String) -> Parameter
@@ -92,6 +93,13 @@ impl Parameter {
             example: None,
             extensions: None,
         }
+    }
+
+    /// The example of the value.
+    pub fn example(&self) -> Option<&Value>
+        ensures { option_map (λ v. view v.now) result ≡ parameter_example self.now }
+    {
+        self.example.as_ref()
     }
 
     /// A builder that begins with a parameter with no name that stands in the path and need not be sent. Takes no memory.
@@ -313,5 +321,16 @@ impl From<ParameterBuilder> for Parameter {
 
     fn from(builder: ParameterBuilder) -> Parameter {
         builder.build()
+    }
+}
+
+/// The value itself.
+impl From<Parameter> for RefOr<Parameter> {
+    ghost use Rattle.utoipa_base.specs.declared.refs.RefOr.TheVariants as places;
+
+    ghost from_gives = { λ value place. place ≡ places.T value };
+
+    fn from(value: Parameter) -> RefOr<Parameter> {
+        RefOr::T(value)
     }
 }

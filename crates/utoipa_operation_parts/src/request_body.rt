@@ -270,3 +270,14 @@ impl RequestBodyExt for RequestBodyBuilder {
         Ok(RequestBodyBuilder { request_body })
     }
 }
+
+/// The value itself.
+impl From<RequestBody> for RefOr<RequestBody> {
+    ghost use Rattle.utoipa_base.specs.declared.refs.RefOr.TheVariants as places;
+
+    ghost from_gives = { λ value place. place ≡ places.T value };
+
+    fn from(value: RequestBody) -> RefOr<RequestBody> {
+        RefOr::T(value)
+    }
+}

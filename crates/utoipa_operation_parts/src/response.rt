@@ -528,3 +528,14 @@ impl From<Responses> for BTreeMap<String, RefOr<Response>> {
         responses.responses
     }
 }
+
+/// The value itself.
+impl From<Response> for RefOr<Response> {
+    ghost use Rattle.utoipa_base.specs.declared.refs.RefOr.TheVariants as places;
+
+    ghost from_gives = { λ value place. place ≡ places.T value };
+
+    fn from(value: Response) -> RefOr<Response> {
+        RefOr::T(value)
+    }
+}

@@ -111,6 +111,14 @@ impl From<AnyOfBuilder> for Schema {
     }
 }
 
+impl From<Schema> for RefOr<Schema> {
+    ghost from_gives = { λ schema place. place ≡ places.T schema };
+
+    fn from(schema: Schema) -> RefOr<Schema> {
+        RefOr::T(schema)
+    }
+}
+
 impl From<Object> for RefOr<Schema> {
     ghost from_gives = { λ object place. place ≡ object_place object };
 
