@@ -6,5 +6,6 @@ pub mod Layers
 pub mod Lists
 pub mod Methods
 pub mod OfKind
+pub mod Operations
 pub mod Parts
 pub mod PathItem

@@ -67,7 +67,8 @@ pub(crate) fn assemble_path_item(
     readings: &mut Readings,
 ) -> Result<PathItem, ReadFault>
     ensures { (start : ℕ)
-        → Reads {A = PathItem} (part operations_rows (view tree.now)) (λ i. list_doc (operations_of operation_doc (out-PathItem i)))
+        → Reads {A = PathItem} (part operations_rows (view tree.now))
+        (λ i. list_doc (operations_of operation_doc (out-PathItem i)))
         (Ok item) start readings.old (rows_values operations_rows (view tree.now))
         → Reads (read (named path_item_object) (view tree.now)) path_item_doc result
         start readings.new (values (view tree.now)) }

@@ -18,7 +18,7 @@ ghost use Rattle.utoipa_path.specs.Methods.{operation_at, with_method, IsEmptyPa
 ghost use Rattle.utoipa_path.specs.declared.types.Operation.{Operation, out-Operation};
 ghost use Rattle.utoipa_path.specs.declared.types.PathItem.{PathItem, out-PathItem};
 
-use crate::methods::{operation_of, replace_operation};
+use crate::methods::replace_operation;
 use crate::path_item::empty_path_item;
 use crate::rows::{
     base_rows, from_rows, operation_rows_after_callbacks, operation_rows_last, over_rows,
@@ -77,7 +77,8 @@ fn put_ref_or_path_item(
     place: &RefOr<PathItem>,
 ) -> Result<(), AllocError>
     ensures { OnOk result ((copy : RefOr PathItem)
-        × (ref_or_doc (named path_item_object) path_item_doc copy ≡ ref_or_doc (named path_item_object) path_item_doc place.now)
+        × (ref_or_doc (named path_item_object) path_item_doc copy
+        ≡ ref_or_doc (named path_item_object) path_item_doc place.now)
         × (callback.new.entries ≡ insert_entry string_cmp callback.old.entries expression copy)) }
 {
     match place {
@@ -189,7 +190,8 @@ fn copy_operation_map(
 /// Copies an operation, if there is one. Fails where memory runs out.
 #[cycle(copy)]
 fn clone_method(alloc: Global, method: Option<&Operation>) -> Result<Option<Operation>, AllocError>
-    ensures { IfOk result (λ copy. option_of operation_doc copy ≡ option_of operation_doc (option_map (λ o. o.now) method.entry)) }
+    ensures { IfOk result (λ copy. option_of operation_doc copy
+        ≡ option_of operation_doc (option_map (λ o. o.now) method.entry)) }
 {
     match method {
         Some(operation) => Ok(Some(clone_operation(alloc, operation)?)),
@@ -210,7 +212,7 @@ fn copy_method(
         × (option_of operation_doc operation ≡ option_of operation_doc (operation_at method (out-PathItem item.now)))
         × (out-PathItem copy.new ≡ with_method method operation (out-PathItem copy.old))) }
 {
-    let operation = clone_method(alloc, operation_of(item, method))?;
+    let operation = clone_method(alloc, item.operation(method))?;
     drop(replace_operation(copy, method, operation));
     Ok(())
 }
@@ -224,7 +226,8 @@ fn copy_main_methods(copy: &mut PathItem, alloc: Global, item: &PathItem) -> Res
         × (option_of operation_doc put ≡ option_of operation_doc (out-PathItem item.now).put)
         × (option_of operation_doc post ≡ option_of operation_doc (out-PathItem item.now).post)
         × (option_of operation_doc delete ≡ option_of operation_doc (out-PathItem item.now).delete)
-        × (out-PathItem copy.new ≡ record (out-PathItem copy.old) { get = get; put = put; post = post; delete = delete })) }
+        × (out-PathItem copy.new
+        ≡ record (out-PathItem copy.old) { get = get; put = put; post = post; delete = delete })) }
 {
     copy_method(copy, alloc, item, HttpMethod::Get)?;
     copy_method(copy, alloc, item, HttpMethod::Put)?;
@@ -241,7 +244,8 @@ fn copy_other_methods(copy: &mut PathItem, alloc: Global, item: &PathItem) -> Re
         × (option_of operation_doc head ≡ option_of operation_doc (out-PathItem item.now).head)
         × (option_of operation_doc patch ≡ option_of operation_doc (out-PathItem item.now).patch)
         × (option_of operation_doc trace ≡ option_of operation_doc (out-PathItem item.now).trace)
-        × (out-PathItem copy.new ≡ record (out-PathItem copy.old) { options = options; head = head; patch = patch; trace = trace })) }
+        × (out-PathItem copy.new
+        ≡ record (out-PathItem copy.old) { options = options; head = head; patch = patch; trace = trace })) }
 {
     copy_method(copy, alloc, item, HttpMethod::Options)?;
     copy_method(copy, alloc, item, HttpMethod::Head)?;
@@ -259,8 +263,10 @@ fn copy_further_methods(
 ) -> Result<(), AllocError>
     ensures { OnOk result ((query : Option Operation) × (additional : Operations)
         × (option_of operation_doc query ≡ option_of operation_doc (out-PathItem item.now).query)
-        × (map_of_docs operation_doc additional ≡ map_of_docs operation_doc (out-PathItem item.now).additional_operations)
-        × (out-PathItem copy.new ≡ record (out-PathItem copy.old) { query = query; additional_operations = additional })) }
+        × (map_of_docs operation_doc additional
+        ≡ map_of_docs operation_doc (out-PathItem item.now).additional_operations)
+        × (out-PathItem copy.new
+        ≡ record (out-PathItem copy.old) { query = query; additional_operations = additional })) }
 {
     let query = clone_method(alloc, item.query.as_ref())?;
     drop(mem::replace(&mut copy.query, query));
@@ -296,7 +302,8 @@ fn put_boxed(
     expression: String,
     item: Box<PathItem>,
 ) -> Result<(), AllocError>
-    ensures { OnOk result (callback.new.entries ≡ insert_entry string_cmp callback.old.entries expression (places.T item.value)) }
+    ensures { OnOk result (callback.new.entries
+        ≡ insert_entry string_cmp callback.old.entries expression (places.T item.value)) }
 {
     put(callback, expression, RefOr::T(Box::into_inner(item)))
 }
@@ -309,7 +316,8 @@ fn put_reference(
     expression: String,
     reference: Ref,
 ) -> Result<(), AllocError>
-    ensures { OnOk result (callback.new.entries ≡ insert_entry string_cmp callback.old.entries expression (places.Ref reference)) }
+    ensures { OnOk result (callback.new.entries
+        ≡ insert_entry string_cmp callback.old.entries expression (places.Ref reference)) }
 {
     put(callback, expression, RefOr::Ref(reference))
 }

@@ -7,6 +7,7 @@ mod emit;
 mod lists;
 pub mod methods;
 pub mod operation;
+pub mod operations;
 pub mod path_item;
 mod read;
 mod rows;
@@ -14,5 +15,6 @@ pub mod trees;
 mod types;
 
 pub use operation::{Callback, Operation, OperationBuilder};
+pub use operations::{ItemOperation, OperationMethod};
 pub use path_item::{PathItem, PathItemBuilder};
 pub use trees::{read_callback, read_operation_map, read_ref_or_callback};

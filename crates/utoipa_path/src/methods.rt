@@ -11,19 +11,21 @@ use std::alloc::Global;
 use std::mem;
 use utoipa_leaf::path::HttpMethod;
 
-/// The operation of a method, where the path item has one.
-pub fn operation_of(item: &PathItem, method: HttpMethod) -> Option<&Operation>
-    ensures { option_map (λ o. o.now) result ≡ operation_at method (out-PathItem item.now) }
-{
-    match method {
-        HttpMethod::Get => item.get.as_ref(),
-        HttpMethod::Post => item.post.as_ref(),
-        HttpMethod::Put => item.put.as_ref(),
-        HttpMethod::Delete => item.delete.as_ref(),
-        HttpMethod::Options => item.options.as_ref(),
-        HttpMethod::Head => item.head.as_ref(),
-        HttpMethod::Patch => item.patch.as_ref(),
-        HttpMethod::Trace => item.trace.as_ref(),
+impl PathItem {
+    /// The operation of a method, where the item has one (OpenAPI 3.1, section 4.8.9).
+    pub fn operation(&self, method: HttpMethod) -> Option<&Operation>
+        ensures { option_map (λ o. o.now) result ≡ operation_at method (out-PathItem self.now) }
+    {
+        match method {
+            HttpMethod::Get => self.get.as_ref(),
+            HttpMethod::Post => self.post.as_ref(),
+            HttpMethod::Put => self.put.as_ref(),
+            HttpMethod::Delete => self.delete.as_ref(),
+            HttpMethod::Options => self.options.as_ref(),
+            HttpMethod::Head => self.head.as_ref(),
+            HttpMethod::Patch => self.patch.as_ref(),
+            HttpMethod::Trace => self.trace.as_ref(),
+        }
     }
 }
 
@@ -60,7 +62,8 @@ pub(crate) fn set_operation(item: &mut PathItem, method: HttpMethod, operation: 
 /// Takes the operations of another item that stand at methods of [`HttpMethod`], in place of earlier ones. All else stays as it is.
 /// Takes no memory.
 pub fn take_operations(item: &mut PathItem, alloc: Global, other: PathItem)
-    ensures taken { (m : HttpMethod) → operation_at m (out-PathItem item.new) ≡ option_or (operation_at m (out-PathItem other)) (operation_at m (out-PathItem item.old)) }
+    ensures taken { (m : HttpMethod) → operation_at m (out-PathItem item.new)
+        ≡ option_or (operation_at m (out-PathItem other)) (operation_at m (out-PathItem item.old)) }
     ensures rest { without_methods (out-PathItem item.new) ≡ without_methods (out-PathItem item.old) }
 {
     let own = mem::replace(item, empty_path_item(alloc));

@@ -127,7 +127,8 @@ impl OperationBuilder {
     ) -> Result<OperationBuilder, AllocError>
         requires can { ForSome parameters (λ it. I.can_next it) }
         requires ends { ForSome parameters (λ it. IsFinite (I.remaining it)) }
-        ensures { IfOk result (λ b. (listed : _) × IsExtendedIfAny I.next_gives (built_operation self).parameters parameters listed
+        ensures { IfOk result (λ b. (listed : _)
+            × IsExtendedIfAny I.next_gives (built_operation self).parameters parameters listed
             × (built_operation b ≡ record (built_operation self) { parameters = listed })) }
     {
         add_places_or_clear(&mut self.operation.parameters, alloc, parameters).and(Ok(self))
@@ -141,7 +142,8 @@ impl OperationBuilder {
         alloc: Global,
         parameter: Parameter,
     ) -> Result<OperationBuilder, AllocError>
-        ensures { IfOk result (λ b. (listed : _) × IsOneMore (built_operation self).parameters (own_place parameter) listed
+        ensures { IfOk result (λ b. (listed : _)
+            × IsOneMore (built_operation self).parameters (own_place parameter) listed
             × (built_operation b ≡ record (built_operation self) { parameters = listed })) }
     {
         add_one(&mut self.operation.parameters, alloc, RefOr::T(parameter)).and(Ok(self))
@@ -155,7 +157,8 @@ impl OperationBuilder {
         alloc: Global,
         reference: Ref,
     ) -> Result<OperationBuilder, AllocError>
-        ensures { IfOk result (λ b. (listed : _) × IsOneMore (built_operation self).parameters (reference_place reference) listed
+        ensures { IfOk result (λ b. (listed : _)
+            × IsOneMore (built_operation self).parameters (reference_place reference) listed
             × (built_operation b ≡ record (built_operation self) { parameters = listed })) }
     {
         add_one(&mut self.operation.parameters, alloc, RefOr::Ref(reference)).and(Ok(self))
@@ -163,7 +166,8 @@ impl OperationBuilder {
 
     /// Sets what is sent to the operation.
     pub fn request_body(mut self, request_body: Option<RequestBody>) -> OperationBuilder
-        ensures { built_operation result ≡ record (built_operation self) { request_body = option_map own_place request_body } }
+        ensures { built_operation result
+            ≡ record (built_operation self) { request_body = option_map own_place request_body } }
     {
         self.operation.request_body = match request_body {
             Some(body) => Some(RefOr::T(body)),
@@ -174,7 +178,8 @@ impl OperationBuilder {
 
     /// Sets a reference to what is sent to the operation.
     pub fn request_body_ref(mut self, reference: Option<Ref>) -> OperationBuilder
-        ensures { built_operation result ≡ record (built_operation self) { request_body = option_map reference_place reference } }
+        ensures { built_operation result
+            ≡ record (built_operation self) { request_body = option_map reference_place reference } }
     {
         self.operation.request_body = match reference {
             Some(reference) => Some(RefOr::Ref(reference)),
@@ -201,7 +206,8 @@ impl OperationBuilder {
     ) -> Result<OperationBuilder, AllocError>
         ensures { IfOk result (λ b. (held : ByStatus)
             × (held.entries ≡ insert_entry string_cmp (built_operation self).responses.responses.entries code response)
-            × (built_operation b ≡ record (built_operation self) { responses = record (built_operation self).responses { responses = held } })) }
+            × (built_operation b
+            ≡ record (built_operation self) { responses = record (built_operation self).responses { responses = held } })) }
     {
         put(&mut self.operation.responses.responses, code, response).and(Ok(self))
     }
@@ -230,7 +236,8 @@ impl OperationBuilder {
     ) -> Result<OperationBuilder, AllocError>
         requires can { I.can_next callbacks }
         requires ends { IsFinite (I.remaining callbacks) }
-        ensures { IfOk result (λ b. (given : Pairs (RefOr Callback)) × (held : Callbacks) × Drains I.next_gives callbacks given
+        ensures { IfOk result (λ b. (given : Pairs (RefOr Callback)) × (held : Callbacks)
+            × Drains I.next_gives callbacks given
             × (held.entries ≡ put_each given (built_operation self).callbacks.entries)
             × (built_operation b ≡ record (built_operation self) { callbacks = held })) }
     {

@@ -24,7 +24,7 @@ pub use crate::types::PathItem;
 use std::alloc::{AllocError, Global};
 use std::collections::BTreeMap;
 use std::mem;
-use utoipa_base::{Extensions, Ref, list_if_any, put, put_each, set};
+use utoipa_base::{Extensions, Ref, RefOr, list_if_any, put, put_each, set};
 use utoipa_leaf::path::HttpMethod;
 use utoipa_leaf::server::Server;
 use utoipa_merging::fill_missing;
@@ -33,7 +33,8 @@ use utoipa_operation_parts::Parameter;
 impl PathItem {
     /// An item with one operation, of which nothing else is said. Takes no memory.
     pub fn new(alloc: Global, method: HttpMethod, operation: Operation) -> PathItem
-        ensures { (empty : PathItemFields) × IsEmptyPathItem empty × (out-PathItem result ≡ with_operation method operation empty) }
+        ensures { (empty : PathItemFields) × IsEmptyPathItem empty
+            × (out-PathItem result ≡ with_operation method operation empty) }
     {
         let mut item = empty_path_item(alloc);
         set_operation(&mut item, method, operation);
@@ -49,7 +50,8 @@ impl PathItem {
     ) -> Result<PathItem, AllocError>
         requires can { I.can_next methods }
         requires ends { IsFinite (I.remaining methods) }
-        ensures { IfOk result (λ item. (given : List HttpMethod) × (empty : PathItemFields) × Drains I.next_gives methods given
+        ensures { IfOk result (λ item. (given : List HttpMethod) × (empty : PathItemFields)
+            × Drains I.next_gives methods given
             × IsEmptyPathItem empty × HoldAtMethods given (operation_doc operation) empty (out-PathItem item)) }
     {
         let mut item = empty_path_item(alloc);
@@ -199,7 +201,8 @@ impl PathItemBuilder {
     ) -> Result<PathItemBuilder, AllocError>
         requires can { I.can_next operations }
         requires ends { IsFinite (I.remaining operations) }
-        ensures { IfOk result (λ b. (given : Pairs Operation) × (held : Operations) × Drains I.next_gives operations given
+        ensures { IfOk result (λ b. (given : Pairs Operation) × (held : Operations)
+            × Drains I.next_gives operations given
             × (held.entries ≡ put_each given (built_path_item self).additional_operations.entries)
             × (built_path_item b ≡ record (built_path_item self) { additional_operations = held })) }
     {
@@ -302,5 +305,16 @@ impl From<PathItemBuilder> for PathItem {
 
     fn from(builder: PathItemBuilder) -> PathItem {
         builder.build()
+    }
+}
+
+/// The value itself.
+impl From<PathItem> for RefOr<PathItem> {
+    ghost use Rattle.utoipa_base.specs.declared.refs.RefOr.TheVariants as places;
+
+    ghost from_gives = { λ value place. place ≡ places.T value };
+
+    fn from(value: PathItem) -> RefOr<PathItem> {
+        RefOr::T(value)
     }
 }

@@ -121,7 +121,8 @@ fn read_operations(
     tree: &Value,
     readings: &mut Readings,
 ) -> Result<PathItem, ReadFault>
-    ensures { Reads (part operations_rows (view tree.now)) (λ i. list_doc (operations_of operation_doc (out-PathItem i))) result
+    ensures { Reads (part operations_rows (view tree.now))
+        (λ i. list_doc (operations_of operation_doc (out-PathItem i))) result
         readings.old readings.new (rows_values operations_rows (view tree.now)) }
 {
     let mut item = empty_path_item(alloc);
@@ -137,7 +138,8 @@ fn fill_operations(
     tree: &Value,
     readings: &mut Readings,
 ) -> Result<(), ReadFault>
-    ensures { Reads (part operations_rows (view tree.now)) (λ _. list_doc (operations_of operation_doc (out-PathItem item.new))) result
+    ensures { Reads (part operations_rows (view tree.now))
+        (λ _. list_doc (operations_of operation_doc (out-PathItem item.new))) result
         readings.old readings.new (rows_values operations_rows (view tree.now)) }
 {
     fill_additional_operations(item, alloc, tree, readings)?;
@@ -168,7 +170,8 @@ fn fill_method(
         × Reads {A = Option Operation} (field (row name.now optional (named operation_object)) (view tree.now))
         (option_of operation_doc) (Ok operation) readings.old readings.new (values_at name.now (view tree.now))
         × (out-PathItem item.new ≡ with_method method operation (out-PathItem item.old))) }
-    ensures err { IfErr result (λ e. Reads {A = Option Operation} (field (row name.now optional (named operation_object)) (view tree.now))
+    ensures err { IfErr result
+        (λ e. Reads {A = Option Operation} (field (row name.now optional (named operation_object)) (view tree.now))
         (option_of operation_doc) (Err e) readings.old readings.new (values_at name.now (view tree.now))) }
 {
     let operation = read_method(alloc, tree, name, readings)?;
@@ -188,7 +191,8 @@ fn fill_query(
         × Reads {A = Option Operation} (field (row (codes "query") optional (named operation_object)) (view tree.now))
         (option_of operation_doc) (Ok operation) readings.old readings.new (values_at (codes "query") (view tree.now))
         × (out-PathItem item.new ≡ record (out-PathItem item.old) { query = operation })) }
-    ensures err { IfErr result (λ e. Reads {A = Option Operation} (field (row (codes "query") optional (named operation_object)) (view tree.now))
+    ensures err { IfErr result
+        (λ e. Reads {A = Option Operation} (field (row (codes "query") optional (named operation_object)) (view tree.now))
         (option_of operation_doc) (Err e) readings.old readings.new (values_at (codes "query") (view tree.now))) }
 {
     let operation = read_method(alloc, tree, "query", readings)?;
@@ -363,7 +367,8 @@ fn fill_operation_map(
     readings: &mut Readings,
 ) -> Result<(), ReadFault>
     requires { map.old.entries ≡ [] }
-    ensures { Reads (read (map_of (named operation_object)) (view tree.now)) (λ _. map_of_docs operation_doc map.new) result
+    ensures { Reads (read (map_of (named operation_object)) (view tree.now))
+        (λ _. map_of_docs operation_doc map.new) result
         readings.old readings.new (values (view tree.now)) }
 {
     let Some(members) = tree.as_object() else {

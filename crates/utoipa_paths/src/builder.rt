@@ -38,7 +38,8 @@ impl PathsBuilder {
         path: String,
         item: PathItem,
     ) -> Result<PathsBuilder, AllocError>
-        ensures put { IfOk result (λ b. IsItemPut (string_bytes path) item (built_paths self).paths (built_paths b).paths) }
+        ensures put { IfOk result
+            (λ b. IsItemPut (string_bytes path) item (built_paths self).paths (built_paths b).paths) }
         ensures extensions { IfOk result (λ b. (built_paths b).extensions ≡ (built_paths self).extensions) }
         ensures ordered { IfOk result (λ b. ArePathsInOrder (paths_doc (built_paths self)) → IsItemInOrder item
             → ArePathsInOrder (paths_doc (built_paths b))) }
@@ -55,7 +56,8 @@ impl PathsBuilder {
         ensures put { IfOk result (λ b. (item : PathItem) × IsItemOf P.listed P.IsDescribed item
             × IsItemPut P.named item (built_paths self).paths (built_paths b).paths) }
         ensures extensions { IfOk result (λ b. (built_paths b).extensions ≡ (built_paths self).extensions) }
-        ensures ordered { IfOk result (λ b. ArePathsInOrder (paths_doc (built_paths self)) → ArePathsInOrder (paths_doc (built_paths b))) }
+        ensures ordered { IfOk result (λ b. ArePathsInOrder (paths_doc (built_paths self))
+            → ArePathsInOrder (paths_doc (built_paths b))) }
     {
         let path = P::path(alloc)?;
         let item = item_from::<P>(alloc)?;

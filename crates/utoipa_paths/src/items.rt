@@ -83,7 +83,8 @@ fn merged_items(
     later: PathsMap<String, PathItem>,
 ) -> Result<PathsMap<String, PathItem>, AllocError>
     ensures merged { IfOk result (λ merged. AreMergedOver items.now later merged) }
-    ensures ordered { IfOk result (λ merged. AreItemsInOrder items.now → AreItemsInOrder later → AreItemsInOrder merged) }
+    ensures ordered { IfOk result (λ merged. AreItemsInOrder items.now → AreItemsInOrder later
+        → AreItemsInOrder merged) }
 {
     let mut merged = BTreeMap::new(alloc);
     for (path, item) in later {
@@ -100,7 +101,8 @@ fn merged_item(
     item: PathItem,
 ) -> Result<PathItem, AllocError>
     ensures merged { IfOk result (λ merged. IsMergedWith (option_copied standing.entry) item merged) }
-    ensures ordered { IfOk result (λ merged. IsInOrderIfAny (option_copied standing.entry) → IsItemInOrder item → IsItemInOrder merged) }
+    ensures ordered { IfOk result (λ merged. IsInOrderIfAny (option_copied standing.entry) → IsItemInOrder item
+        → IsItemInOrder merged) }
 {
     match standing {
         Some(standing) => {

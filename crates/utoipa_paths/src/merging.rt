@@ -15,7 +15,8 @@ use utoipa_base::Extensions;
 /// Fails where memory runs out.
 pub fn merge_paths(alloc: Global, all: Vec<Paths>) -> Result<Paths, AllocError>
     ensures merged { IfOk result (λ merged. ArePathsMerged (map paths_doc all.items) (paths_doc merged)) }
-    ensures ordered { IfOk result (λ merged. AllByRecursion (λ paths. ArePathsInOrder (paths_doc paths)) all.items → ArePathsInOrder (paths_doc merged)) }
+    ensures ordered { IfOk result (λ merged. AllByRecursion (λ paths. ArePathsInOrder (paths_doc paths)) all.items
+        → ArePathsInOrder (paths_doc merged)) }
 {
     let mut merged = Paths::new(alloc);
     for paths in all {
@@ -26,8 +27,10 @@ pub fn merge_paths(alloc: Global, all: Vec<Paths>) -> Result<Paths, AllocError>
 
 /// The paths with those of another value. Fails where memory runs out.
 fn with_paths(earlier: Paths, alloc: Global, later: Paths) -> Result<Paths, AllocError>
-    ensures merged { IfOk result (λ merged. ArePathsMerged (paths_doc earlier ∷ paths_doc later ∷ []) (paths_doc merged)) }
-    ensures ordered { IfOk result (λ merged. ArePathsInOrder (paths_doc earlier) → ArePathsInOrder (paths_doc later) → ArePathsInOrder (paths_doc merged)) }
+    ensures merged { IfOk result
+        (λ merged. ArePathsMerged (paths_doc earlier ∷ paths_doc later ∷ []) (paths_doc merged)) }
+    ensures ordered { IfOk result (λ merged. ArePathsInOrder (paths_doc earlier) → ArePathsInOrder (paths_doc later)
+        → ArePathsInOrder (paths_doc merged)) }
 {
     let mut earlier = earlier;
     put_items(&mut earlier.paths, alloc, later.paths)?;
@@ -45,7 +48,8 @@ pub(crate) fn merged_extensions(
     later: Option<Extensions>,
 ) -> Result<Option<Extensions>, AllocError>
     ensures merged { IfOk result (λ merged. AreExtensionsMerged earlier later merged) }
-    ensures ordered { IfOk result (λ merged. AreExtensionsInOrder earlier → AreExtensionsInOrder later → AreExtensionsInOrder merged) }
+    ensures ordered { IfOk result (λ merged. AreExtensionsInOrder earlier → AreExtensionsInOrder later
+        → AreExtensionsInOrder merged) }
 {
     match (earlier, later) {
         (Some(earlier), Some(later)) => {

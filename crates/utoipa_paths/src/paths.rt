@@ -21,7 +21,7 @@ use utoipa_base::{
     clone_extensions, emit_entries, entries_from_tokens, read_entries,
 };
 use utoipa_leaf::path::HttpMethod;
-use utoipa_path::methods::{operation_of, take_operations};
+use utoipa_path::methods::take_operations;
 use utoipa_path::{Operation, PathItem};
 
 /// A map by paths, or by the names of webhooks.
@@ -68,7 +68,7 @@ impl Paths {
             ≡ option_and_then (λ item. operation_at method (out-PathItem item)) (get_by_text self.now.paths path.now) }
     {
         match self.get_path_item(path) {
-            Some(item) => operation_of(item, method),
+            Some(item) => item.operation(method),
             None => None,
         }
     }
@@ -105,7 +105,8 @@ impl Paths {
     pub fn merge(&mut self, alloc: Global, other: Paths) -> Result<(), AllocError>
         ensures ok { OnOk result (ArePathsMerged (paths_doc self.old ∷ paths_doc other ∷ []) (paths_doc self.new)) }
         ensures err { OnErr result (paths_doc self.new ≡ paths_doc self.old) }
-        ensures ordered { ArePathsInOrder (paths_doc self.old) → ArePathsInOrder (paths_doc other) → ArePathsInOrder (paths_doc self.new) }
+        ensures ordered { ArePathsInOrder (paths_doc self.old) → ArePathsInOrder (paths_doc other)
+            → ArePathsInOrder (paths_doc self.new) }
     {
         let Paths { paths, extensions } = other;
         if extensions.is_none() {

@@ -138,7 +138,7 @@ pub clone_method-clone_operation-requires : goal.clone_method-clone_operation-re
 clone_method-clone_operation-requires t c = (omega (arith, ap (λ o. weight (option_of operation_doc (option_map (λ b. b.now) o))) c.in-Some.is, lighter_some (operation_doc c.in-Some.operation.now)), tt)
 
 pub copy_method-clone_method-requires : goal.copy_method-clone_method-requires
-copy_method-clone_method-requires t c = (omega (arith, ap (λ o. weight (option_of operation_doc o)) c.operation_of.ensures, among_methods c.args.method c.args.item.now), tt)
+copy_method-clone_method-requires t c = (omega (arith, ap (λ o. weight (option_of operation_doc o)) c.operation.ensures, among_methods c.args.method c.args.item.now), tt)
 
 pub copy_further_methods-clone_method-requires : goal.copy_further_methods-clone_method-requires
 copy_further_methods-clone_method-requires t c = (omega (arith, ap (λ o. weight (option_of operation_doc o)) c.as_ref.ensures.value, (among_operations c.args.item.now).8), tt)
