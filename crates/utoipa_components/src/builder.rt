@@ -3,6 +3,7 @@ ghost use Rattle.std.specs.Prelude.{◌≡◌, Some, None, IfOk, IfErr, String, 
 ghost use Rattle.std.specs.BTreeMap.{insert_entry};
 ghost use Rattle.std.specs.Iterator.{IsFinite, Drains};
 ghost use Rattle.utoipa_base.specs.Fill.{Pairs, put_each};
+ghost use Rattle.utoipa_base.specs.Views.{pairs_of};
 ghost use Rattle.utoipa_base.specs.declared.refs.RefOr.{RefOr};
 ghost use Rattle.utoipa_components.specs.Components.{built_components, AreEmptyComponents, PlacesByName, PathItemsByName};
 ghost use Rattle.utoipa_compose.specs.Compositions.{place_doc};
@@ -64,7 +65,7 @@ impl ComponentsBuilder {
     }
 
     /// Puts the schema of a type, or a reference to it, under the type's name, in place of an earlier one of that name. The schemas
-    /// that it refers to are not put: [`ToSchema::schemas`] gives them.
+    /// that it refers to are not put: [`ComponentsBuilder::schemas_from`] puts them too.
     ///
     /// Fails with `KeyIsReference` exactly where a reference stands for the schema of a map's keys, and with `Memory` where memory runs
     /// out, and then gives up what was built.
@@ -80,6 +81,24 @@ impl ComponentsBuilder {
         Ok(self.schema(name, schema)?)
     }
 
+    /// Puts the schema of a type, or a reference to it, under the type's name, and those that it refers to ([`ToSchema::schemas`]), each
+    /// under its own, in place of earlier ones of these names. Where one that it refers to has the type's name, the type's own stays.
+    ///
+    /// Fails with `KeyIsReference` exactly where a reference stands for the schema of a map's keys, and with `Memory` where memory runs
+    /// out, and then gives up what was built.
+    pub fn schemas_from<T: ToSchema>(self, alloc: Global) -> Result<ComponentsBuilder, ComposeFault>
+        ensures ok { IfOk result (λ b. (given : Pairs (RefOr Schema)) × (name : String Global) × (schema : RefOr Schema)
+            × (held : PlacesByName Schema)
+            × (pairs_of place_doc given ≡ T.referred) × (string_bytes name ≡ T.named)
+            × (T.described ≡ Some (place_doc schema))
+            × (held.entries ≡ insert_entry string_cmp (put_each given (built_components self).schemas.entries) name schema)
+            × (built_components b ≡ record (built_components self) { schemas = held })) }
+        ensures key { IfErr result (λ fault. fault ≡ KeyIsReference → T.described ≡ None) }
+    {
+        let referred = referred_schemas::<T>(alloc)?.into_iter();
+        self.schemas_from_iter(referred)?.schema_from::<T>(alloc)
+    }
+
     /// Puts each of the schemas, or references to such, under its name, in place of an earlier one of that name. The iterator has
     /// to end.
     ///
@@ -90,7 +109,8 @@ impl ComponentsBuilder {
     ) -> Result<ComponentsBuilder, AllocError>
         requires can { I.can_next schemas }
         requires ends { IsFinite (I.remaining schemas) }
-        ensures { IfOk result (λ b. (given : Pairs (RefOr Schema)) × (held : PlacesByName Schema) × Drains I.next_gives schemas given
+        ensures { IfOk result (λ b. (given : Pairs (RefOr Schema)) × (held : PlacesByName Schema)
+            × Drains I.next_gives schemas given
             × (held.entries ≡ put_each given (built_components self).schemas.entries)
             × (built_components b ≡ record (built_components self) { schemas = held })) }
     {
@@ -119,7 +139,8 @@ impl ComponentsBuilder {
         self,
         alloc: Global,
     ) -> Result<ComponentsBuilder, AllocError>
-        ensures { IfOk result (λ b. (name : String Global) × (response : RefOr Response) × (held : PlacesByName Response)
+        ensures { IfOk result (λ b. (name : String Global) × (response : RefOr Response)
+            × (held : PlacesByName Response)
             × (string_bytes name ≡ T.named) × (response_place_doc response ≡ T.described)
             × (held.entries ≡ insert_entry string_cmp (built_components self).responses.entries name response)
             × (built_components b ≡ record (built_components self) { responses = held })) }
@@ -138,7 +159,8 @@ impl ComponentsBuilder {
     ) -> Result<ComponentsBuilder, AllocError>
         requires can { I.can_next responses }
         requires ends { IsFinite (I.remaining responses) }
-        ensures { IfOk result (λ b. (given : Pairs (RefOr Response)) × (held : PlacesByName Response) × Drains I.next_gives responses given
+        ensures { IfOk result (λ b. (given : Pairs (RefOr Response)) × (held : PlacesByName Response)
+            × Drains I.next_gives responses given
             × (held.entries ≡ put_each given (built_components self).responses.entries)
             × (built_components b ≡ record (built_components self) { responses = held })) }
     {
@@ -271,7 +293,8 @@ impl ComponentsBuilder {
     ) -> Result<ComponentsBuilder, AllocError>
         requires can { I.can_next media_types }
         requires ends { IsFinite (I.remaining media_types) }
-        ensures { IfOk result (λ b. (given : Pairs (RefOr Content)) × (held : PlacesByName Content) × Drains I.next_gives media_types given
+        ensures { IfOk result (λ b. (given : Pairs (RefOr Content)) × (held : PlacesByName Content)
+            × Drains I.next_gives media_types given
             × (held.entries ≡ put_each given (built_components self).media_types.entries)
             × (built_components b ≡ record (built_components self) { media_types = held })) }
     {
@@ -312,6 +335,15 @@ impl ComponentsBuilder {
     {
         self.components
     }
+}
+
+// The schemas that the schema of a type refers to, each with its name. Fails where memory runs out.
+fn referred_schemas<T: ToSchema>(alloc: Global) -> Result<Vec<(String, RefOr<Schema>)>, AllocError>
+    ensures { IfOk result (λ schemas. pairs_of place_doc schemas.items ≡ T.referred) }
+{
+    let mut schemas = Vec::new(alloc);
+    T::schemas(alloc, &mut schemas)?;
+    Ok(schemas)
 }
 
 impl From<Components> for ComponentsBuilder {

@@ -222,7 +222,8 @@ fn with_schemas(
     rest: Components,
     large: (DefaultedField<BTreeMap<String, RefOr<Schema>>>, ()),
 ) -> Components
-    ensures { components_doc result ≡ with_fields schemas_alone (doc (places_doc schema schema_doc large.0.0) no_docs) (components_doc rest) }
+    ensures { components_doc result
+        ≡ with_fields schemas_alone (doc (places_doc schema schema_doc large.0.0) no_docs) (components_doc rest) }
 {
     let mut components = rest;
     let (DefaultedField(schemas), ()) = large;

@@ -4,6 +4,7 @@
 mod builder;
 pub mod components;
 pub mod merging;
+mod resolve;
 
 pub use builder::ComponentsBuilder;
 pub use components::Components;

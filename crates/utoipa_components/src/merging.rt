@@ -102,7 +102,8 @@ fn filled_with(
 
 /// Takes back what was taken. Takes no memory.
 pub fn take_back_components(own: &mut Option<Components>, filled: FilledComponents)
-    ensures { (before : _) → GoBack filled own.old before → option_of components_doc own.new ≡ option_of components_doc before }
+    ensures { (before : _) → GoBack filled own.old before → option_of components_doc own.new
+        ≡ option_of components_doc before }
 {
     match filled {
         FilledComponents::Nothing => {}
@@ -131,9 +132,11 @@ pub fn merge_components(
     alloc: Global,
     all: Vec<Option<Components>>,
 ) -> Result<Option<Components>, AllocError>
-    ensures merged { IfOk result (λ merged. 0 < length all.items → AreComponentsMerged (map (option_of components_doc) all.items) (option_of components_doc merged)) }
+    ensures merged { IfOk result (λ merged. 0 < length all.items
+        → AreComponentsMerged (map (option_of components_doc) all.items) (option_of components_doc merged)) }
     ensures none { all.items ≡ [] → IfOk result (λ merged. merged ≡ None) }
-    ensures ordered { IfOk result (λ merged. AllByRecursion AreComponentsInOrder all.items → AreComponentsInOrder merged) }
+    ensures ordered { IfOk result (λ merged. AllByRecursion AreComponentsInOrder all.items
+        → AreComponentsInOrder merged) }
 {
     let mut all = all.into_iter();
     let Some(mut merged) = all.next() else {

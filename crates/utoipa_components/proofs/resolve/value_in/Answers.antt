@@ -1,0 +1,23 @@
+use Rattle.std.proofs.Common.{◌≡◌, None, Some, ◌+◌, ◌-◌, length, suc, ap, ◌∙◌, arith}
+use Rattle.utoipa_components.specs.Resolve.{found}
+use Rattle.utoipa_components.proofs.Found.{at_value, at_name}
+use Rattle.utoipa_components.proofs.resolve.value_in.Goals as goal
+
+pub loop-init : goal.loop-init
+loop-init g c =
+    let e : c.len-end.result + 1 - 0 ≡ suc (length c.args.entries.now.entries) = ap (λ n. n + 1 - 0) c.len-end.ensures.len ∙ omega arith in
+    ap (λ n. found n c.args.map c.args.entries.now c.args.place.now) e
+
+pub returns-in-T : goal.returns-in-T
+returns-in-T g c = at_value c.args.map c.args.entries.now c.len-end.result c.loop.counter c.loop-test.true c.loop.reached.now _ c.loop.invariant c.in-T.value c.in-T.is
+
+pub loop-preserved : goal.loop-preserved
+loop-preserved g c =
+    at_name c.args.map c.args.entries.now c.len-end.result c.loop.counter c.loop-test.true c.loop.reached.now _ c.loop.invariant
+    c.in-Ref.reference c.in_ok-name_in-in-Ref.field-0.now (Some c.in_ok-reached-in-Ref.reached.now) c.in-Ref.is c.in_ok-name_in-in-Ref.ensures c.in_ok-reached-in-Ref.ensures.value
+
+pub returns-in_err-reached-in-Ref : goal.returns-in_err-reached-in-Ref
+returns-in_err-reached-in-Ref g c =
+    rw c.from_residual-in_err-reached-in-Ref.ensures
+    (at_name c.args.map c.args.entries.now c.len-end.result c.loop.counter c.loop-test.true c.loop.reached.now _ c.loop.invariant
+    c.in-Ref.reference c.in_ok-name_in-in-Ref.field-0.now None c.in-Ref.is c.in_ok-name_in-in-Ref.ensures c.in_err-reached-in-Ref.ensures.value)
