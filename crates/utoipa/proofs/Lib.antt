@@ -10,3 +10,5 @@ pub mod FurtherTags
 pub mod KeyOrder
 pub mod NothingAdded
 pub mod TheTheorem
+pub mod FirstOperation
+pub mod OwnSchemas

@@ -1,6 +1,10 @@
 pub mod Merging
 pub mod Nesting
 pub mod OpenApi
+pub mod Operations
 pub mod Texts
 pub mod Tags
 pub mod MainTheorem
+pub mod OwnSchemas
+pub mod Implementing
+pub mod Documents

@@ -38,7 +38,8 @@ pub enum Bracketing {
 ///
 /// Brackets inside of brackets take some 11 KiB of the stack a level; [`merge_all`], which takes a list, takes none for its length.
 pub fn merge_tree(alloc: Global, bracketing: Bracketing) -> Result<OpenApi, MergeFault>
-    ensures fraction { IsErrOf result Fraction ↔ (any_list_has_fraction (map openapi_doc (leaves_of bracketing)) ≡ true) }
+    ensures fraction { IsErrOf result Fraction ↔ (any_list_has_fraction (map openapi_doc (leaves_of bracketing))
+        ≡ true) }
     ensures composer { IsErrOf result Composer → ⊥ }
     ensures one { (d : OpenApi) → leaves_of bracketing ≡ d ∷ [] → result ≡ Ok d }
     ensures ok { IfOk result (λ merged. IsMerged (map openapi_doc (leaves_of bracketing)) (openapi_doc merged)) }
@@ -96,7 +97,8 @@ pub fn merge_all(alloc: Global, documents: Vec<OpenApi>) -> Result<Option<OpenAp
     ensures none { documents.items ≡ [] → result ≡ Ok None }
     ensures one { (d : OpenApi) → documents.items ≡ d ∷ [] → result ≡ Ok (Some d) }
     ensures some { IfOk result (λ merged. merged ≡ None → documents.items ≡ []) }
-    ensures ok { IfOk result (λ merged. IfSome merged (λ d. IsMerged (map openapi_doc documents.items) (openapi_doc d))) }
+    ensures ok { IfOk result
+        (λ merged. IfSome merged (λ d. IsMerged (map openapi_doc documents.items) (openapi_doc d))) }
     ensures ordered { IfOk result (λ merged. IfSome merged (λ d. IsInKeyOrder (openapi_doc d))) }
 {
     if documents.len() > 1 && any_has_fraction(&documents) {
@@ -122,7 +124,8 @@ fn merge_behind(
     others: IntoIter<OpenApi>,
 ) -> Result<OpenApi, AllocError>
     requires plain { list_any lists_have_fraction (map openapi_doc (first ∷ into_iter_items others)) ≡ false }
-    ensures ok { IfOk result (λ merged. IsMerged (map openapi_doc (first ∷ into_iter_items others)) (openapi_doc merged)) }
+    ensures ok { IfOk result
+        (λ merged. IsMerged (map openapi_doc (first ∷ into_iter_items others)) (openapi_doc merged)) }
 {
     let mut parts = Parts::new(alloc);
     let mut fixed = first;
@@ -173,7 +176,8 @@ impl Parts {
 
     /// Takes the parts of one more document out of it. Fails where memory runs out.
     fn take(&mut self, alloc: Global, document: &mut OpenApi) -> Result<(), AllocError>
-        ensures parts { OnOk result ((documents : List OpenApi) → ArePartsOf documents self.old → ArePartsOf (documents ++ document.old ∷ []) self.new) }
+        ensures parts { OnOk result ((documents : List OpenApi) → ArePartsOf documents self.old
+            → ArePartsOf (documents ++ document.old ∷ []) self.new) }
         ensures fixed { OnOk result (IsSameButParts document.old document.new) }
     {
         self.servers.push(document.servers.take())?;
@@ -187,7 +191,8 @@ impl Parts {
 
     /// Takes the parts of one more document, and gives up the rest. Fails where memory runs out.
     fn take_whole(&mut self, alloc: Global, document: OpenApi) -> Result<(), AllocError>
-        ensures { OnOk result ((documents : List OpenApi) → ArePartsOf documents self.old → ArePartsOf (documents ++ document ∷ []) self.new) }
+        ensures { OnOk result ((documents : List OpenApi) → ArePartsOf documents self.old
+            → ArePartsOf (documents ++ document ∷ []) self.new) }
     {
         let mut document = document;
         self.take(alloc, &mut document)
@@ -208,7 +213,8 @@ impl Parts {
     /// Puts these parts, merged, into a document in place of its own. Fails where memory runs out, and then some were put.
     fn put_merged(self, alloc: Global, document: &mut OpenApi) -> Result<(), AllocError>
         requires plain { ArePartsPlain self }
-        ensures ok { OnOk result ((documents : List OpenApi) (d : OpenApi) → ArePartsOf (d ∷ documents) self → IsSameButParts d document.old
+        ensures ok { OnOk result ((documents : List OpenApi) (d : OpenApi) → ArePartsOf (d ∷ documents) self
+            → IsSameButParts d document.old
             → IsMerged (map openapi_doc (d ∷ documents)) (openapi_doc document.new)) }
     {
         let Parts {

@@ -181,7 +181,8 @@ impl Tree for OpenApi {
 
 // The document that an object of these members is, and of no paths. Fails as reading its tree does, and where a schema is read.
 fn of_others(alloc: Global, others: Map<String, Value>) -> Result<OpenApi, Unread>
-    ensures read { IfOk result (λ v. read (named open_api_object) (object (put (codes "paths") (object no_members) (members_view others.entries))) ≡ Some (openapi_doc v)) }
+    ensures read { IfOk result
+        (λ v. read (named open_api_object) (object (put (codes "paths") (object no_members) (members_view others.entries))) ≡ Some (openapi_doc v)) }
     ensures no_schema { IfOk result (λ v. schema_count (openapi_doc v) ≡ 0) }
 {
     let mut members = others;

@@ -72,12 +72,15 @@ pub fn main_theorem<T: Tree>(
 /// well-formed or in normal form where they are. It is at hand, so nothing has to be known of the order of its keys, through which the call goes
 /// once.
 pub fn what_is_merged(merged: &OpenApi)
-    ensures alone { (documents : List Doc) (d : Doc) → IsMerged documents (openapi_doc merged.now) → IsMerged documents d → IsInKeyOrder d
+    ensures alone { (documents : List Doc) (d : Doc) → IsMerged documents (openapi_doc merged.now)
+        → IsMerged documents d → IsInKeyOrder d
         → d ≡ openapi_doc merged.now }
-    ensures plain { (documents : List Doc) → IsMerged documents (openapi_doc merged.now) → All IsPlain documents → IsPlain (openapi_doc merged.now) }
+    ensures plain { (documents : List Doc) → IsMerged documents (openapi_doc merged.now) → All IsPlain documents
+        → IsPlain (openapi_doc merged.now) }
     ensures well_formed { (documents : List OpenApi) → IsMerged (map openapi_doc documents) (openapi_doc merged.now)
         → All IsWellFormed (map openapi_doc documents) → IsWellFormed (openapi_doc merged.now) }
-    ensures normal { (documents : List Doc) → IsMerged documents (openapi_doc merged.now) → All (λ d. normal_form d ≡ d) documents
+    ensures normal { (documents : List Doc) → IsMerged documents (openapi_doc merged.now)
+        → All (λ d. normal_form d ≡ d) documents
         → normal_form (openapi_doc merged.now) ≡ openapi_doc merged.now }
 {
     merged.in_key_order();
@@ -86,14 +89,18 @@ pub fn what_is_merged(merged: &OpenApi)
 /// What holds of a document with another nested into it, whichever call nested it: no other has its keys in order; it is plain or in normal
 /// form where the two are; and where they are well-formed, it is so exactly where no answer begins `x-`.
 pub fn what_is_nested(nested: &OpenApi)
-    ensures alone { (answers : List (List ℕ)) (own other : OpenApi) (d : Doc) → IsNested answers (openapi_doc own) (openapi_doc other) (openapi_doc nested.now)
+    ensures alone { (answers : List (List ℕ)) (own other : OpenApi) (d : Doc)
+        → IsNested answers (openapi_doc own) (openapi_doc other) (openapi_doc nested.now)
         → IsNested answers (openapi_doc own) (openapi_doc other) d → IsInKeyOrder d → d ≡ openapi_doc nested.now }
-    ensures plain { (answers : List (List ℕ)) (own other : OpenApi) → IsNested answers (openapi_doc own) (openapi_doc other) (openapi_doc nested.now)
+    ensures plain { (answers : List (List ℕ)) (own other : OpenApi)
+        → IsNested answers (openapi_doc own) (openapi_doc other) (openapi_doc nested.now)
         → IsPlain (openapi_doc own) → IsPlain (openapi_doc other) → IsPlain (openapi_doc nested.now) }
-    ensures well_formed { (answers : List (List ℕ)) (own other : OpenApi) → IsNested answers (openapi_doc own) (openapi_doc other) (openapi_doc nested.now)
+    ensures well_formed { (answers : List (List ℕ)) (own other : OpenApi)
+        → IsNested answers (openapi_doc own) (openapi_doc other) (openapi_doc nested.now)
         → IsWellFormed (openapi_doc own) → IsWellFormed (openapi_doc other)
         → IsWellFormed (openapi_doc nested.now) ↔ All (λ a. is_extension a ≡ false) answers }
-    ensures normal { (answers : List (List ℕ)) (own other : OpenApi) → IsNested answers (openapi_doc own) (openapi_doc other) (openapi_doc nested.now)
+    ensures normal { (answers : List (List ℕ)) (own other : OpenApi)
+        → IsNested answers (openapi_doc own) (openapi_doc other) (openapi_doc nested.now)
         → normal_form (openapi_doc own) ≡ openapi_doc own → normal_form (openapi_doc other) ≡ openapi_doc other
         → normal_form (openapi_doc nested.now) ≡ openapi_doc nested.now }
 {

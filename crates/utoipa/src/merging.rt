@@ -21,7 +21,7 @@ use utoipa_paths::Paths;
 use utoipa_security::security::SecurityRequirement;
 
 /// Why documents were not merged.
-#[derive(Debug, Drop, Error)]
+#[derive(Clone, Copy, Debug, Drop, Error, PartialEq, Eq)]
 pub enum MergeFault {
     /// A request for memory was refused.
     #[error("out of memory")]
@@ -60,7 +60,8 @@ impl OpenApi {
     /// Fails with `Fraction` exactly where a server or a tag of one of the two holds a fraction, before anything else and without
     /// memory, and with `Memory` where memory runs out. Then this document is what it was.
     pub fn merge(&mut self, alloc: Global, other: OpenApi) -> Result<(), MergeFault>
-        ensures fraction { IsErrOf result Fraction ↔ ((lists_have_fraction (openapi_doc self.old) || lists_have_fraction (openapi_doc other)) ≡ true) }
+        ensures fraction { IsErrOf result Fraction ↔ ((lists_have_fraction (openapi_doc self.old)
+            || lists_have_fraction (openapi_doc other)) ≡ true) }
         ensures composer { IsErrOf result Composer → ⊥ }
         ensures ok { OnOk result (IsMerged (openapi_doc self.old ∷ openapi_doc other ∷ []) (openapi_doc self.new)) }
         ensures err { OnErr result (openapi_doc self.new ≡ openapi_doc self.old) }
@@ -77,7 +78,8 @@ impl OpenApi {
 
     /// This document with another merged into it, as [`OpenApi::merge`] does.
     pub fn merge_from(self, alloc: Global, other: OpenApi) -> Result<OpenApi, MergeFault>
-        ensures fraction { IsErrOf result Fraction ↔ ((lists_have_fraction (openapi_doc self) || lists_have_fraction (openapi_doc other)) ≡ true) }
+        ensures fraction { IsErrOf result Fraction ↔ ((lists_have_fraction (openapi_doc self)
+            || lists_have_fraction (openapi_doc other)) ≡ true) }
         ensures composer { IsErrOf result Composer → ⊥ }
         ensures ok { IfOk result (λ merged. IsMerged (openapi_doc self ∷ openapi_doc other ∷ []) (openapi_doc merged)) }
         ensures ordered { IfOk result (λ merged. IsInKeyOrder (openapi_doc self) → IsInKeyOrder (openapi_doc merged)) }
@@ -101,7 +103,8 @@ impl OpenApi {
         requires other_plain { lists_have_fraction (openapi_doc other) ≡ false }
         ensures ok { OnOk result (IsMerged (openapi_doc self.old ∷ openapi_doc other ∷ []) (openapi_doc self.new)) }
         ensures err { OnErr result (openapi_doc self.new ≡ openapi_doc self.old) }
-        ensures ordered { IsInKeyOrder (openapi_doc self.old) → IsInKeyOrder (openapi_doc other) → IsInKeyOrder (openapi_doc self.new) }
+        ensures ordered { IsInKeyOrder (openapi_doc self.old) → IsInKeyOrder (openapi_doc other)
+            → IsInKeyOrder (openapi_doc self.new) }
     {
         let (servers, security, tags, maps) = parts_of(other);
         let (maps, servers) = beside(maps, make_room(&mut self.servers, alloc, servers))?;
@@ -149,10 +152,13 @@ fn merge_maps(
 ) -> Result<(), AllocError>
     ensures components { OnOk result (AreComponentsMerged (option_of components_doc components.old ∷ option_of components_doc later.0 ∷ []) (option_of components_doc components.new)) }
     ensures paths { OnOk result (ArePathsMerged (paths_doc paths.old ∷ paths_doc later.1 ∷ []) (paths_doc paths.new)) }
-    ensures components_err { OnErr result (option_of components_doc components.new ≡ option_of components_doc components.old) }
+    ensures components_err { OnErr result (option_of components_doc components.new
+        ≡ option_of components_doc components.old) }
     ensures paths_err { OnErr result (paths_doc paths.new ≡ paths_doc paths.old) }
-    ensures components_ordered { AreComponentsInOrder components.old → AreComponentsInOrder later.0 → AreComponentsInOrder components.new }
-    ensures paths_ordered { ArePathsInOrder (paths_doc paths.old) → ArePathsInOrder (paths_doc later.1) → ArePathsInOrder (paths_doc paths.new) }
+    ensures components_ordered { AreComponentsInOrder components.old → AreComponentsInOrder later.0
+        → AreComponentsInOrder components.new }
+    ensures paths_ordered { ArePathsInOrder (paths_doc paths.old) → ArePathsInOrder (paths_doc later.1)
+        → ArePathsInOrder (paths_doc paths.new) }
 {
     let (later_components, later_paths) = later;
     let filled = fill_components(components, alloc, later_components);
@@ -169,7 +175,8 @@ fn keep_if_merged(
     paths: &Result<(), AllocError>,
 )
     ensures kept { OnOk paths.now (components.new ≡ components.old) }
-    ensures taken_back { OnErr paths.now ((before : _) → GoBack filled components.old before → option_of components_doc components.new ≡ option_of components_doc before) }
+    ensures taken_back { OnErr paths.now ((before : _) → GoBack filled components.old before
+        → option_of components_doc components.new ≡ option_of components_doc before) }
 {
     if paths.is_err() {
         take_back_components(components, filled);
@@ -196,7 +203,8 @@ pub(crate) fn merged_with(
     requires plain { lists_have_fraction (openapi_doc document) ≡ false }
     requires other_plain { lists_have_fraction (openapi_doc other) ≡ false }
     ensures ok { IfOk result (λ merged. IsMerged (openapi_doc document ∷ openapi_doc other ∷ []) (openapi_doc merged)) }
-    ensures ordered { IfOk result (λ merged. IsInKeyOrder (openapi_doc document) → IsInKeyOrder (openapi_doc other) → IsInKeyOrder (openapi_doc merged)) }
+    ensures ordered { IfOk result (λ merged. IsInKeyOrder (openapi_doc document) → IsInKeyOrder (openapi_doc other)
+        → IsInKeyOrder (openapi_doc merged)) }
 {
     let mut document = document;
     let merged = document.merge_plain(alloc, other);

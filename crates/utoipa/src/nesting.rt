@@ -27,9 +27,12 @@ impl OpenApi {
     /// Fails with `Fraction` exactly where a server or a tag of one of the two holds a fraction, before anything else and without
     /// memory, and with `Memory` where memory runs out.
     pub fn nest(self, alloc: Global, base: &str, other: OpenApi) -> Result<OpenApi, MergeFault>
-        ensures fraction { IsErrOf result Fraction ↔ ((lists_have_fraction (openapi_doc self) || lists_have_fraction (openapi_doc other)) ≡ true) }
+        ensures fraction { IsErrOf result Fraction ↔ ((lists_have_fraction (openapi_doc self)
+            || lists_have_fraction (openapi_doc other)) ≡ true) }
         ensures composer { IsErrOf result Composer → ⊥ }
-        ensures ok { IfOk result (λ nested. IsNested (map (λ path. base.now ++ path) (keys_of (entries_in (paths_of (openapi_doc other))))) (openapi_doc self) (openapi_doc other) (openapi_doc nested)) }
+        ensures ok { IfOk result
+            (λ nested. IsNested (map
+            (λ path. base.now ++ path) (keys_of (entries_in (paths_of (openapi_doc other))))) (openapi_doc self) (openapi_doc other) (openapi_doc nested)) }
         ensures ordered { IfOk result (λ nested. IsInKeyOrder (openapi_doc self) → IsInKeyOrder (openapi_doc nested)) }
     {
         let behind = |base: &str, path: &str| joined(alloc, base, path);
@@ -51,8 +54,10 @@ impl OpenApi {
         composer: F,
     ) -> Result<OpenApi, MergeFault>
         requires { F.IsAlwaysCallable composer }
-        ensures fraction { IsErrOf result Fraction ↔ ((lists_have_fraction (openapi_doc self) || lists_have_fraction (openapi_doc other)) ≡ true) }
-        ensures composer { IsErrOf result Composer → MayRefuseOne F.Fn composer base.now (keys_of (entries_in (paths_of (openapi_doc other)))) }
+        ensures fraction { IsErrOf result Fraction ↔ ((lists_have_fraction (openapi_doc self)
+            || lists_have_fraction (openapi_doc other)) ≡ true) }
+        ensures composer { IsErrOf result Composer
+            → MayRefuseOne F.Fn composer base.now (keys_of (entries_in (paths_of (openapi_doc other)))) }
         ensures ok { IfOk result (λ nested. (answers : List (List ℕ))
             × MayAnswerEach F.Fn composer base.now (keys_of (entries_in (paths_of (openapi_doc other)))) answers
             × IsNested answers (openapi_doc self) (openapi_doc other) (openapi_doc nested)) }
@@ -77,12 +82,15 @@ fn mount_paths<F: Fn(&str, &str) -> Result<String, AllocError>>(
     composer: &F,
 ) -> Result<(), MergeFault>
     requires { F.IsAlwaysCallable composer.now }
-    ensures fraction { IsErrOf result Fraction ↔ ((lists_have_fraction (openapi_doc document.old) || lists_have_fraction (openapi_doc other.old)) ≡ true) }
-    ensures composer { IsErrOf result Composer → MayRefuseOne F.Fn composer.now base.now (keys_of (entries_in (paths_of (openapi_doc other.old)))) }
+    ensures fraction { IsErrOf result Fraction ↔ ((lists_have_fraction (openapi_doc document.old)
+        || lists_have_fraction (openapi_doc other.old)) ≡ true) }
+    ensures composer { IsErrOf result Composer
+        → MayRefuseOne F.Fn composer.now base.now (keys_of (entries_in (paths_of (openapi_doc other.old)))) }
     ensures ok { OnOk result ((answers : List (List ℕ))
         × MayAnswerEach F.Fn composer.now base.now (keys_of (entries_in (paths_of (openapi_doc other.old)))) answers
         × ArePathsMounted answers document.old document.new other.old other.new) }
-    ensures ordered { OnOk result (AreItemsInOrder document.old.paths.paths → AreItemsInOrder other.old.paths.paths → AreItemsInOrder document.new.paths.paths) }
+    ensures ordered { OnOk result (AreItemsInOrder document.old.paths.paths → AreItemsInOrder other.old.paths.paths
+        → AreItemsInOrder document.new.paths.paths) }
 {
     if document.lists_have_fraction() || other.lists_have_fraction() {
         return Err(MergeFault::Fraction);
@@ -100,7 +108,8 @@ fn mount<F: Fn(&str, &str) -> Result<String, AllocError>>(
 ) -> Result<(), MergeFault>
     requires { F.IsAlwaysCallable composer.now }
     ensures fraction { IsErrOf result Fraction → ⊥ }
-    ensures composer { IsErrOf result Composer → MayRefuseOne F.Fn composer.now base.now (keys_of (entries_in (map_of_docs path_item_doc nested))) }
+    ensures composer { IsErrOf result Composer
+        → MayRefuseOne F.Fn composer.now base.now (keys_of (entries_in (map_of_docs path_item_doc nested))) }
     ensures ok { OnOk result ((answers : List (List ℕ))
         × MayAnswerEach F.Fn composer.now base.now (keys_of (entries_in (map_of_docs path_item_doc nested))) answers
         × AreMounted answers (map_of_docs path_item_doc nested) (map_of_docs path_item_doc items.old) (map_of_docs path_item_doc items.new)) }

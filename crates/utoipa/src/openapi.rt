@@ -69,9 +69,13 @@ pub mod link {
 /// Paths, their operations, and the parameters of these: the Paths Object, the Path Item Object, the Operation Object, the
 /// Parameter Object and the Callback Object (OpenAPI 3.1, sections 4.8.8 to 4.8.10, 4.8.12 and 4.8.18).
 pub mod path {
+    pub use crate::operations::PathOperation;
     pub use utoipa_leaf::path::{HttpMethod, ParameterIn, ParameterStyle};
     pub use utoipa_operation_parts::{Parameter, ParameterBuilder};
-    pub use utoipa_path::{Callback, Operation, OperationBuilder, PathItem, PathItemBuilder};
+    pub use utoipa_path::{
+        Callback, ItemOperation, Operation, OperationBuilder, OperationMethod, PathItem,
+        PathItemBuilder,
+    };
     pub use utoipa_paths::{Paths, PathsBuilder, PathsMap, merge_paths};
 }
 

@@ -26,7 +26,8 @@ use utoipa_paths::PathsMap;
 ///
 /// Fails where memory runs out.
 pub fn operation_of<T: PathConfig>(alloc: Global) -> Result<Operation, AllocError>
-    ensures { IfOk result (λ operation. (own : Doc) × T.IsDescribed own × (operation_doc operation ≡ with_tags T.tagged own)) }
+    ensures { IfOk result (λ operation. (own : Doc) × T.IsDescribed own
+        × (operation_doc operation ≡ with_tags T.tagged own)) }
 {
     let (tags, operation) = T::tags_and_operation(alloc)?;
     let mut operation = operation;
@@ -40,7 +41,8 @@ pub fn operation_of<T: PathConfig>(alloc: Global) -> Result<Operation, AllocErro
 ///
 /// Fails where memory runs out.
 pub fn openapi_of<T: NestedApiConfig>(alloc: Global) -> Result<OpenApi, AllocError>
-    ensures { IfOk result (λ document. (own : Doc) × T.IsDescribed own × (openapi_doc document ≡ nested_openapi T.tagged T.module_path own)) }
+    ensures { IfOk result (λ document. (own : Doc) × T.IsDescribed own
+        × (openapi_doc document ≡ nested_openapi T.tagged T.module_path own)) }
 {
     let (document, tags, module_path) = T::config(alloc)?;
     let mut document = document;
@@ -56,7 +58,9 @@ fn nested_items(
     tags: &Vec<&'static str>,
     module_path: &str,
 ) -> Result<PathsMap<String, PathItem>, AllocError>
-    ensures { IfOk result (λ nested. item_entries nested ≡ change_entries (nested_item (texts_of tags.now.items) module_path.now) (item_entries items)) }
+    ensures { IfOk result
+        (λ nested. item_entries nested
+        ≡ change_entries (nested_item (texts_of tags.now.items) module_path.now) (item_entries items)) }
 {
     let mut nested = BTreeMap::new(alloc);
     for (path, item) in items {
@@ -73,7 +77,8 @@ fn tagged_item(
     tags: &Vec<&'static str>,
     module_path: &str,
 ) -> Result<PathItem, AllocError>
-    ensures { IfOk result (λ tagged. path_item_doc tagged ≡ nested_item (texts_of tags.now.items) module_path.now (path_item_doc item)) }
+    ensures { IfOk result
+        (λ tagged. path_item_doc tagged ≡ nested_item (texts_of tags.now.items) module_path.now (path_item_doc item)) }
 {
     let mut item = item;
     tag_item(&mut item, alloc, tags, module_path).and(Ok(item))
@@ -86,7 +91,8 @@ fn tag_item(
     tags: &Vec<&'static str>,
     module_path: &str,
 ) -> Result<(), AllocError>
-    ensures { OnOk result (path_item_doc item.new ≡ nested_item (texts_of tags.now.items) module_path.now (path_item_doc item.old)) }
+    ensures { OnOk result (path_item_doc item.new
+        ≡ nested_item (texts_of tags.now.items) module_path.now (path_item_doc item.old)) }
 {
     tag_main_methods(item, alloc, tags, module_path)?;
     tag_other_methods(item, alloc, tags, module_path)?;
@@ -101,11 +107,16 @@ fn tag_main_methods(
     module_path: &str,
 ) -> Result<(), AllocError>
     ensures { OnOk result ((get put post delete : Option Operation)
-        × (option_of operation_doc get ≡ nested_method (texts_of tags.now.items) module_path.now (out-PathItem item.old).get)
-        × (option_of operation_doc put ≡ nested_method (texts_of tags.now.items) module_path.now (out-PathItem item.old).put)
-        × (option_of operation_doc post ≡ nested_method (texts_of tags.now.items) module_path.now (out-PathItem item.old).post)
-        × (option_of operation_doc delete ≡ nested_method (texts_of tags.now.items) module_path.now (out-PathItem item.old).delete)
-        × (out-PathItem item.new ≡ record (out-PathItem item.old) { get = get; put = put; post = post; delete = delete })) }
+        × (option_of operation_doc get
+        ≡ nested_method (texts_of tags.now.items) module_path.now (out-PathItem item.old).get)
+        × (option_of operation_doc put
+        ≡ nested_method (texts_of tags.now.items) module_path.now (out-PathItem item.old).put)
+        × (option_of operation_doc post
+        ≡ nested_method (texts_of tags.now.items) module_path.now (out-PathItem item.old).post)
+        × (option_of operation_doc delete
+        ≡ nested_method (texts_of tags.now.items) module_path.now (out-PathItem item.old).delete)
+        × (out-PathItem item.new
+        ≡ record (out-PathItem item.old) { get = get; put = put; post = post; delete = delete })) }
 {
     tag_method(item, alloc, HttpMethod::Get, tags, module_path)?;
     tag_method(item, alloc, HttpMethod::Put, tags, module_path)?;
@@ -122,11 +133,16 @@ fn tag_other_methods(
     module_path: &str,
 ) -> Result<(), AllocError>
     ensures { OnOk result ((options head patch trace : Option Operation)
-        × (option_of operation_doc options ≡ nested_method (texts_of tags.now.items) module_path.now (out-PathItem item.old).options)
-        × (option_of operation_doc head ≡ nested_method (texts_of tags.now.items) module_path.now (out-PathItem item.old).head)
-        × (option_of operation_doc patch ≡ nested_method (texts_of tags.now.items) module_path.now (out-PathItem item.old).patch)
-        × (option_of operation_doc trace ≡ nested_method (texts_of tags.now.items) module_path.now (out-PathItem item.old).trace)
-        × (out-PathItem item.new ≡ record (out-PathItem item.old) { options = options; head = head; patch = patch; trace = trace })) }
+        × (option_of operation_doc options
+        ≡ nested_method (texts_of tags.now.items) module_path.now (out-PathItem item.old).options)
+        × (option_of operation_doc head
+        ≡ nested_method (texts_of tags.now.items) module_path.now (out-PathItem item.old).head)
+        × (option_of operation_doc patch
+        ≡ nested_method (texts_of tags.now.items) module_path.now (out-PathItem item.old).patch)
+        × (option_of operation_doc trace
+        ≡ nested_method (texts_of tags.now.items) module_path.now (out-PathItem item.old).trace)
+        × (out-PathItem item.new
+        ≡ record (out-PathItem item.old) { options = options; head = head; patch = patch; trace = trace })) }
 {
     tag_method(item, alloc, HttpMethod::Options, tags, module_path)?;
     tag_method(item, alloc, HttpMethod::Head, tags, module_path)?;
@@ -144,7 +160,8 @@ fn tag_method(
     module_path: &str,
 ) -> Result<(), AllocError>
     ensures { OnOk result ((operation : Option Operation)
-        × (option_of operation_doc operation ≡ nested_method (texts_of tags.now.items) module_path.now (operation_at method (out-PathItem item.old)))
+        × (option_of operation_doc operation
+        ≡ nested_method (texts_of tags.now.items) module_path.now (operation_at method (out-PathItem item.old)))
         × (out-PathItem item.new ≡ with_method method operation (out-PathItem item.old))) }
 {
     if let Some(operation) = replace_operation(item, method, None) {
@@ -163,7 +180,8 @@ fn tag_operation(
     tags: &Vec<&'static str>,
     module_path: &str,
 ) -> Result<(), AllocError>
-    ensures { OnOk result (operation_doc operation.new ≡ nested_operation (texts_of tags.now.items) module_path.now (operation_doc operation.old)) }
+    ensures { OnOk result (operation_doc operation.new
+        ≡ nested_operation (texts_of tags.now.items) module_path.now (operation_doc operation.old)) }
 {
     let own = mem::replace(&mut operation.tags, None);
     let tags = tags_behind(alloc, own, tags)?;
@@ -178,7 +196,8 @@ fn add_tags(
     alloc: Global,
     tags: &Vec<&'static str>,
 ) -> Result<(), AllocError>
-    ensures { OnOk result (operation_doc operation.new ≡ with_tags (texts_of tags.now.items) (operation_doc operation.old)) }
+    ensures { OnOk result (operation_doc operation.new
+        ≡ with_tags (texts_of tags.now.items) (operation_doc operation.old)) }
 {
     let own = mem::replace(&mut operation.tags, None);
     operation.tags = Some(tags_behind(alloc, own, tags)?);
@@ -191,7 +210,8 @@ fn tags_behind(
     own: Option<Vec<String>>,
     further: &Vec<&'static str>,
 ) -> Result<Vec<String>, AllocError>
-    ensures { IfOk result (λ tags. map string_bytes tags.items ≡ map string_bytes (items_if_any own) ++ texts_of further.now.items) }
+    ensures { IfOk result (λ tags. map string_bytes tags.items
+        ≡ map string_bytes (items_if_any own) ++ texts_of further.now.items) }
 {
     let mut tags = match own {
         Some(tags) => tags,
@@ -209,7 +229,8 @@ fn tags_or_module(
     tags: Vec<String>,
     module_path: &str,
 ) -> Result<Vec<String>, AllocError>
-    ensures { IfOk result (λ made. map string_bytes made.items ≡ or_module module_path.now (map string_bytes tags.items)) }
+    ensures { IfOk result (λ made. map string_bytes made.items
+        ≡ or_module module_path.now (map string_bytes tags.items)) }
 {
     let mut tags = tags;
     if tags.is_empty() && !module_path.is_empty() {

@@ -9,9 +9,9 @@ ghost use Rattle.utoipa.specs.OpenApi.{openapi_doc};
 ghost use Rattle.utoipa.specs.Texts.{pretty_text, RefusesText};
 
 use crate::document::OpenApi;
-use json::Writer;
+use crate::json_text::{from_json, to_json, to_pretty_json};
 use std::alloc::{AllocError, Global};
-use utoipa_base::{Emit, ReadFault, Tree};
+use utoipa_base::ReadFault;
 
 impl OpenApi {
     /// The document of a JSON text.
@@ -24,7 +24,7 @@ impl OpenApi {
         ensures ok { IfOk result (λ document. IsTextOf (openapi_doc document) text.now) }
         ensures err { IfErr result (RefusesText text.now) }
     {
-        OpenApi::from_json_text(alloc, text)
+        from_json::<OpenApi>(alloc, text)
     }
 
     /// The document as JSON in compact form, the members of each object in the order of their names.
@@ -34,10 +34,7 @@ impl OpenApi {
         ensures { IfOk result (λ text. has_float (write (openapi_doc self.now)) ≡ false
             → string_bytes text ≡ compact_text (write (openapi_doc self.now))) }
     {
-        let mut out = Writer::new(Vec::with_capacity(alloc, 128)?);
-        self.emit(&mut out)?;
-        // What a writer of JSON has is UTF-8.
-        Ok(String::from_utf8(out.into_inner()).unwrap())
+        to_json(alloc, self)
     }
 
     /// The document as JSON with a line for each item and member, two spaces deeper for each bracket round them, and the members of
@@ -50,6 +47,6 @@ impl OpenApi {
         ensures reads_back { IfOk result (λ text. depth (write (openapi_doc self.now)) ≤ max_depth
             → read_text (string_bytes text) ≡ Some (write (openapi_doc self.now))) }
     {
-        self.to_value(alloc)?.to_string_pretty(alloc)
+        to_pretty_json(alloc, self)
     }
 }

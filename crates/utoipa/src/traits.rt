@@ -81,5 +81,6 @@ pub trait NestedApiConfig {
     fn config(
         alloc: Global,
     ) -> Result<(openapi::OpenApi, Vec<&'static str>, &'static str), AllocError>
-        ensures { IfOk result (λ made. IsDescribed (openapi_doc made.0) × (texts_of made.1.items ≡ tagged) × (made.2.now ≡ module_path)) };
+        ensures { IfOk result (λ made. IsDescribed (openapi_doc made.0) × (texts_of made.1.items ≡ tagged)
+            × (made.2.now ≡ module_path)) };
 }

@@ -6,7 +6,7 @@ use std::alloc::{AllocError, AllocFailed};
 use thiserror::Error;
 
 /// Why a type has no schema.
-#[derive(Debug, Drop, Error)]
+#[derive(Clone, Copy, Debug, Drop, Error, PartialEq, Eq)]
 pub enum ComposeFault {
     /// A request for memory was refused.
     #[error("out of memory")]

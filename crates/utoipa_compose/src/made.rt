@@ -100,8 +100,10 @@ pub(crate) fn map(
     keys: RefOr<Schema>,
     values: RefOr<Schema>,
 ) -> Result<RefOr<Schema>, ComposeFault>
-    ensures ok { IfOk result (λ made. map_by (own_schema (Some (place_doc keys))) (Some (place_doc values)) ≡ Some (place_doc made)) }
-    ensures key { IfErr result (λ fault. fault ≡ KeyIsReference → map_by (own_schema (Some (place_doc keys))) (Some (place_doc values)) ≡ None) }
+    ensures ok { IfOk result (λ made. map_by (own_schema (Some (place_doc keys))) (Some (place_doc values))
+        ≡ Some (place_doc made)) }
+    ensures key { IfErr result (λ fault. fault ≡ KeyIsReference
+        → map_by (own_schema (Some (place_doc keys))) (Some (place_doc values)) ≡ None) }
 {
     let (keys, values) = own_beside(alloc, keys, AdditionalProperties::RefOr(values))?;
     let mut object = Object::new(alloc);

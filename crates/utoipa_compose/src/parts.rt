@@ -30,7 +30,8 @@ pub(crate) fn first_two<K: ComposeSchema, V: ComposeSchema>(
 ) -> Result<(RefOr<Schema>, RefOr<Schema>), ComposeFault>
     ensures keys { IfOk result (λ both. part 0 K.composed (place_docs schemas) ≡ Some (place_doc both.0)) }
     ensures values { IfOk result (λ both. part 1 V.composed (place_docs schemas) ≡ Some (place_doc both.1)) }
-    ensures key { IfErr result (λ fault. fault ≡ KeyIsReference → map_composed K.composed V.composed (place_docs schemas) ≡ None) }
+    ensures key { IfErr result (λ fault. fault ≡ KeyIsReference
+        → map_composed K.composed V.composed (place_docs schemas) ≡ None) }
 {
     let mut schemas = schemas.into_iter();
     match (schemas.next(), schemas.next()) {

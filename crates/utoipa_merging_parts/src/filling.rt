@@ -54,7 +54,8 @@ impl<T: Tree, R: Filling> Filling for (BTreeMap<String, T>, R) {
 
     ghost docs = { λ maps. map_of_docs T.doc maps.0 ∷ R.docs maps.1 };
 
-    ghost goes_back = { λ filled maps before. (without filled.0 maps.0.entries ≡ before.0.entries) × R.goes_back filled.1 maps.1 before.1 };
+    ghost goes_back = { λ filled maps before. (without filled.0 maps.0.entries ≡ before.0.entries)
+        × R.goes_back filled.1 maps.1 before.1 };
 
     fn fill(
         &mut self,

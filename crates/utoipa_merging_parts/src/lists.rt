@@ -40,7 +40,8 @@ pub fn join_lists<T: Same>(
     lists: Vec<Option<Vec<T>>>,
 ) -> Result<Option<Vec<T>>, AllocError>
     requires plain { All (λ l. IsPlain (option_of (list_of_docs T.doc) l)) lists.items }
-    ensures { IfOk result (λ joined. IsListMerged (map (option_of (list_of_docs T.doc)) lists.items) (option_of (list_of_docs T.doc) joined)) }
+    ensures { IfOk result
+        (λ joined. IsListMerged (map (option_of (list_of_docs T.doc)) lists.items) (option_of (list_of_docs T.doc) joined)) }
 {
     let mut joined = None;
     for list in lists {
@@ -126,7 +127,8 @@ fn with_entries<T: Same>(joined: Joined<T>, new: Vec<Written<T>>) -> Result<Join
     requires sound { IsSound T.doc joined }
     requires written { All (IsWritten T.doc) new.items }
     ensures sound { IfOk result (IsSound T.doc) }
-    ensures entries { IfOk result (λ all. map T.doc all.entries.items ≡ map T.doc joined.entries.items ++ map (entry_doc T.doc) new.items) }
+    ensures entries { IfOk result (λ all. map T.doc all.entries.items
+        ≡ map T.doc joined.entries.items ++ map (entry_doc T.doc) new.items) }
 {
     let mut joined = joined;
     for Written { text, entry } in new {
@@ -157,7 +159,8 @@ fn new_entries<T: Same>(
     requires earlier_plain { ArePlain T.doc earlier.now }
     requires known { AreKnown places.now (map T.doc earlier.now) }
     requires plain { ArePlain T.doc entries.items }
-    ensures new { IfOk result (λ new. AreNew (map T.doc earlier.now) (map T.doc entries.items) (map (entry_doc T.doc) new.items)) }
+    ensures new { IfOk result
+        (λ new. AreNew (map T.doc earlier.now) (map T.doc entries.items) (map (entry_doc T.doc) new.items)) }
     ensures written { IfOk result (λ new. All (IsWritten T.doc) new.items) }
 {
     let mut new = Vec::new(alloc);

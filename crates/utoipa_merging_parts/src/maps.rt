@@ -19,7 +19,8 @@ pub(crate) fn fill_noted<T: Drop>(
     alloc: Global,
     later: BTreeMap<String, T>,
 ) -> Result<Names, AllocError>
-    ensures ok { OnOk result ((name : List ℕ) → get_by_text map.new name ≡ option_or (get_by_text map.old name) (get_by_text later name)) }
+    ensures ok { OnOk result ((name : List ℕ) → get_by_text map.new name
+        ≡ option_or (get_by_text map.old name) (get_by_text later name)) }
     ensures noted { IfOk result (λ names. without names map.new.entries ≡ map.old.entries) }
     ensures err { OnErr result (map.new.entries ≡ map.old.entries) }
     ensures ordered { IsOrdered string_cmp map.old → IsOrdered string_cmp map.new }
@@ -39,7 +40,8 @@ pub(crate) fn take_back<T: Drop>(map: &mut BTreeMap<String, T>, names: &Names)
 }
 
 fn names_of<T: Drop>(alloc: Global, map: &BTreeMap<String, T>) -> Result<Names, AllocError>
-    ensures { IfOk result (λ names. (name : List ℕ) → is_some (get_by_text names name) ≡ is_some (get_by_text map.now name)) }
+    ensures { IfOk result (λ names. (name : List ℕ) → is_some (get_by_text names name)
+        ≡ is_some (get_by_text map.now name)) }
 {
     let mut names = BTreeMap::new(alloc);
     for name in map.keys() {

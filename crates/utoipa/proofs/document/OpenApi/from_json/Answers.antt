@@ -2,7 +2,7 @@ use Rattle.utoipa.proofs.TextReadings.{text_read, text_refused}
 use Rattle.utoipa.proofs.document.OpenApi.from_json.Goals as goal
 
 pub returns-clause-ok : goal.returns-clause-ok
-returns-clause-ok c = text_read _ c.from_json_text.result c.from_json_text.ensures.ok
+returns-clause-ok c = text_read _ c.from_json.result c.from_json.ensures.ok
 
 pub returns-clause-err : goal.returns-clause-err
-returns-clause-err c = text_refused _ c.from_json_text.result c.from_json_text.ensures.err
+returns-clause-err c = text_refused _ c.from_json.result c.from_json.ensures.err

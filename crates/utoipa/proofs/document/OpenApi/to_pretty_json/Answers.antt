@@ -1,8 +1,7 @@
-use Rattle.utoipa.proofs.PrettyTexts.{pretty_as, reads_back_as}
 use Rattle.utoipa.proofs.document.OpenApi.to_pretty_json.Goals as goal
 
 pub returns-clause-text : goal.returns-clause-text
-returns-clause-text c = pretty_as c.to_string_pretty.result _ _ c.in_ok-to_value.ensures c.to_string_pretty.ensures.layout c.to_string_pretty.ensures.order
+returns-clause-text c = c.to_pretty_json.ensures.text
 
 pub returns-clause-reads_back : goal.returns-clause-reads_back
-returns-clause-reads_back c = reads_back_as c.to_string_pretty.result _ _ c.in_ok-to_value.ensures c.to_string_pretty.ensures.reads_back
+returns-clause-reads_back c = c.to_pretty_json.ensures.reads_back
