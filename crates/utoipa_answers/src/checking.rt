@@ -22,7 +22,8 @@ pub(crate) fn document(alloc: Global, source: Source<'_>) -> Result<OpenApi, Ref
 /// the document lacks once it is written again, and each reference that leads to nothing; or the line that tells that the file is no JSON.
 /// None where nothing is found. Fails where memory runs out.
 pub fn check(alloc: Global, source: Source<'_>) -> Result<String, AllocError>
-    ensures { IfOk result (λ lines. IsChecked document_kind source.entry.name.now source.entry.bytes.now (string_bytes lines)) }
+    ensures { IfOk result
+        (λ lines. IsChecked document_kind source.entry.name.now source.entry.bytes.now (string_bytes lines)) }
 {
     utoipa_findings::check::<OpenApi>(alloc, Kind::Named(ObjectType::OpenApiObject), source)
 }

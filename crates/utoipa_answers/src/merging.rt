@@ -55,7 +55,8 @@ fn dropped_by(
     sources: &[Source<'_>],
     documents: &[OpenApi],
 ) -> Result<String, AllocError>
-    ensures { IfOk result (λ lines. string_bytes lines ≡ dropped_lines (names_of sources.now) (map openapi_doc documents.now)) }
+    ensures { IfOk result
+        (λ lines. string_bytes lines ≡ dropped_lines (names_of sources.now) (map openapi_doc documents.now)) }
 {
     let trees = trees_of_documents(alloc, documents)?;
     conflict_lines(alloc, sources, &trees)
@@ -68,9 +69,11 @@ fn dropped_or_refused(
     sources: &[Source<'_>],
     documents: &[OpenApi],
 ) -> Result<String, Refusal>
-    ensures ok { IfOk result (λ lines. string_bytes lines ≡ dropped_lines (names_of sources.now) (map openapi_doc documents.now)) }
+    ensures ok { IfOk result
+        (λ lines. string_bytes lines ≡ dropped_lines (names_of sources.now) (map openapi_doc documents.now)) }
     ensures kept { IfOk result (λ lines. strict ≡ true → string_bytes lines ≡ []) }
-    ensures err { IfErr result (Tells (λ told. (strict ≡ true) × (told ≢ []) × (told ≡ dropped_lines (names_of sources.now) (map openapi_doc documents.now)))) }
+    ensures err { IfErr result (Tells (λ told. (strict ≡ true) × (told ≢ [])
+        × (told ≡ dropped_lines (names_of sources.now) (map openapi_doc documents.now)))) }
 {
     let lines = dropped_by(alloc, sources, documents)?;
     if strict && !lines.is_empty() {
@@ -91,9 +94,11 @@ pub fn merge(
     sources: &[Source<'_>],
 ) -> Result<Merged, Refusal>
     requires { 0 < length sources.now }
-    ensures ok { IfOk result (λ merged. IsMerge layout (map file_of sources.now) (string_bytes merged.text) (string_bytes merged.dropped)) }
+    ensures ok { IfOk result
+        (λ merged. IsMerge layout (map file_of sources.now) (string_bytes merged.text) (string_bytes merged.dropped)) }
     ensures kept { IfOk result (λ merged. strict ≡ true → string_bytes merged.dropped ≡ []) }
-    ensures err { IfErr result (Tells (λ told. IsOneRefused (map file_of sources.now) told ⊎ ((strict ≡ true) × IsDropping (map file_of sources.now) told))) }
+    ensures err { IfErr result (Tells (λ told. IsOneRefused (map file_of sources.now) told
+        ⊎ ((strict ≡ true) × IsDropping (map file_of sources.now) told))) }
 {
     let documents = documents_of(alloc, sources)?;
     let dropped = dropped_or_refused(alloc, strict, sources, &documents);

@@ -30,7 +30,8 @@ pub fn nest(
     own: Source<'_>,
     nested: Source<'_>,
 ) -> Result<String, Refusal>
-    ensures ok { IfOk result (λ text. IsNest layout base.now own.entry.bytes.now nested.entry.bytes.now (string_bytes text)) }
+    ensures ok { IfOk result
+        (λ text. IsNest layout base.now own.entry.bytes.now nested.entry.bytes.now (string_bytes text)) }
     ensures err { IfErr result (Tells (IsOneRefused (file_of own.entry ∷ file_of nested.entry ∷ []))) }
 {
     let own = document(alloc, own)?;

@@ -58,7 +58,8 @@ pub(crate) fn choose<'a>(
     words: &'static [&'static str],
 ) -> Result<Choosing<'a>, AllocError>
     requires words { texts words.now ≡ words_of_choices (choices_of choices.now) }
-    ensures chosen { IfOk result (λ c. chosen_kind c ≡ chosen_at name.now (choices_of choices.now) (members_at (view tree.now))) }
+    ensures chosen { IfOk result
+        (λ c. chosen_kind c ≡ chosen_at name.now (choices_of choices.now) (members_at (view tree.now))) }
     ensures misfits { IfOk result (λ c. (f : kinds.Kind → misfits.Misfits)
         → after_choice f c ≡ misfits.tagged_misfits name.now (choices_of choices.now) f (get name.now (view tree.now))) }
 {

@@ -25,10 +25,15 @@ fn end_doubts<'a>(
     outcomes: &Vec<Outcome<'a>>,
     found: &mut Vec<Outcome<'a>>,
 ) -> Result<(), AllocError>
-    requires outcomes { (rest : List places.Outcome) × (stacked outcomes.now.items ≡ places.outcomes (places.inner_places (place_of task.now).target (place_of task.now).tree) ++ rest) × (below ≡ length rest) }
-    requires found { (rest : List places.Outcome) × (stacked found.old.items ≡ all_doubted (places.inner_places (place_of task.now).target (place_of task.now).tree) ++ rest) × (below ≡ length rest) }
+    requires outcomes { (rest : List places.Outcome) × (stacked outcomes.now.items
+        ≡ places.outcomes (places.inner_places (place_of task.now).target (place_of task.now).tree) ++ rest)
+        × (below ≡ length rest) }
+    requires found { (rest : List places.Outcome) × (stacked found.old.items
+        ≡ all_doubted (places.inner_places (place_of task.now).target (place_of task.now).tree) ++ rest)
+        × (below ≡ length rest) }
     ensures { OnOk result ((rest : List places.Outcome)
-        → stacked found.old.items ≡ all_doubted (places.inner_places (place_of task.now).target (place_of task.now).tree) ++ rest
+        → stacked found.old.items
+        ≡ all_doubted (places.inner_places (place_of task.now).target (place_of task.now).tree) ++ rest
         → below ≡ length rest → stacked found.new.items ≡ doubted (place_of task.now) ∷ rest) }
 {
     let inner = found.split_off(below)?;

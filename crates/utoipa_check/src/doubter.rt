@@ -32,8 +32,10 @@ fn put_row_doubts<'a>(
     found: &mut Vec<Misfit<'a>>,
 ) -> Result<(), AllocError>
     ensures { OnOk result ((rest : List places.Outcome)
-        → stacked inner.old.items ≡ all_doubted (field_places row.now.name.now (kind_of row.now.kind) (get row.now.name.now (view tree.now))) ++ rest
-        → (stacked inner.new.items ≡ rest) × (misfits_of found.new.items ≡ misfits_of found.old.items ++ row_doubts_at row.now (view tree.now))) }
+        → stacked inner.old.items
+        ≡ all_doubted (field_places row.now.name.now (kind_of row.now.kind) (get row.now.name.now (view tree.now))) ++ rest
+        → (stacked inner.new.items ≡ rest) × (misfits_of found.new.items
+        ≡ misfits_of found.old.items ++ row_doubts_at row.now (view tree.now))) }
 {
     if tree.get(row.name).is_none() {
         return Ok(());
@@ -54,7 +56,8 @@ fn doubts_by_rows<'a>(
     inner: Vec<Outcome<'a>>,
 ) -> Result<Vec<Misfit<'a>>, AllocError>
     requires { stacked inner.items ≡ all_doubted (fields_places (members_of rows.now) (view tree.now)) }
-    ensures { IfOk result (λ v. misfits_of v.items ≡ specs.rows_doubts (rows_of rows.now) (specs.doubters (members_at (view tree.now)))) }
+    ensures { IfOk result
+        (λ v. misfits_of v.items ≡ specs.rows_doubts (rows_of rows.now) (specs.doubters (members_at (view tree.now)))) }
 {
     let mut found = Vec::new(alloc);
     let mut left = inner;
@@ -71,7 +74,9 @@ fn meant_doubts<'a>(
     inner: &[Outcome<'a>],
 ) -> Result<Vec<Misfit<'a>>, AllocError>
     requires { stacked inner.now ≡ outcomes (fields_places schema_members (view tree.now)) }
-    ensures { IfOk result (λ v. misfits_of v.items ≡ specs.meant_doubts (members_at (view tree.now)) (checks (members_at (view tree.now)))) }
+    ensures { IfOk result
+        (λ v. misfits_of v.items
+        ≡ specs.meant_doubts (members_at (view tree.now)) (checks (members_at (view tree.now)))) }
 {
     if !fits_schema(tree, inner) {
         return Ok(Vec::new(alloc));
@@ -92,7 +97,9 @@ fn schema_doubts<'a>(
 ) -> Result<Vec<Misfit<'a>>, AllocError>
     requires misfits { stacked inner_misfits.now ≡ outcomes (fields_places schema_members (view tree.now)) }
     requires inner { stacked inner.items ≡ all_doubted (fields_places schema_members (view tree.now)) }
-    ensures { IfOk result (λ v. misfits_of v.items ≡ specs.schema_doubts (members_at (view tree.now)) (checks (members_at (view tree.now))) (specs.doubters (members_at (view tree.now)))) }
+    ensures { IfOk result
+        (λ v. misfits_of v.items
+        ≡ specs.schema_doubts (members_at (view tree.now)) (checks (members_at (view tree.now))) (specs.doubters (members_at (view tree.now)))) }
 {
     let mut found = meant_doubts(alloc, tree, inner_misfits)?;
     let taken = schema_rows(taken_schema(tree, inner_misfits));
@@ -110,9 +117,13 @@ fn own_doubts<'a>(
     inner: Vec<Outcome<'a>>,
 ) -> Result<Vec<Misfit<'a>>, AllocError>
     requires own { takes_references (kind_of kind) ≡ false }
-    requires misfits { stacked inner_misfits.now ≡ outcomes (object_places (kind_layout (kind_of kind) (members_at (view tree.now))) (view tree.now)) }
-    requires inner { stacked inner.items ≡ all_doubted (object_places (kind_layout (kind_of kind) (members_at (view tree.now))) (view tree.now)) }
-    ensures { IfOk result (λ v. misfits_of v.items ≡ specs.own_doubts (members_at (view tree.now)) (checks (members_at (view tree.now))) (specs.doubters (members_at (view tree.now))) (kind_of kind)) }
+    requires misfits { stacked inner_misfits.now
+        ≡ outcomes (object_places (kind_layout (kind_of kind) (members_at (view tree.now))) (view tree.now)) }
+    requires inner { stacked inner.items
+        ≡ all_doubted (object_places (kind_layout (kind_of kind) (members_at (view tree.now))) (view tree.now)) }
+    ensures { IfOk result
+        (λ v. misfits_of v.items
+        ≡ specs.own_doubts (members_at (view tree.now)) (checks (members_at (view tree.now))) (specs.doubters (members_at (view tree.now))) (kind_of kind)) }
 {
     match kind {
         Kind::MapOf(_) | Kind::OrderedMapOf(_) | Kind::EntriesOf(_) => join_all(alloc, inner),
@@ -132,8 +143,11 @@ fn reference_doubts<'a>(
     own: Vec<Misfit<'a>>,
 ) -> Result<Vec<Misfit<'a>>, AllocError>
     requires own { takes_references (kind_of kind) ≡ false }
-    requires misfits { stacked inner_misfits.now ≡ outcomes (object_places (kind_layout (kind_of kind) (members_at (view tree.now))) (view tree.now)) }
-    ensures { IfOk result (λ v. misfits_of v.items ≡ specs.reference_doubts true (misfits.table_misfits kinds.reference_object (checks (members_at (view tree.now))))
+    requires misfits { stacked inner_misfits.now
+        ≡ outcomes (object_places (kind_layout (kind_of kind) (members_at (view tree.now))) (view tree.now)) }
+    ensures { IfOk result
+        (λ v. misfits_of v.items
+        ≡ specs.reference_doubts true (misfits.table_misfits kinds.reference_object (checks (members_at (view tree.now))))
         (misfits.object_misfits (members_at (view tree.now)) (checks (members_at (view tree.now))) (kind_of kind)) (misfits_of own.entry.items)) }
 {
     let mut reference = reference_misfits(alloc, tree)?;
@@ -157,9 +171,13 @@ fn object_doubts<'a>(
     inner_misfits: &[Outcome<'a>],
     inner: Vec<Outcome<'a>>,
 ) -> Result<Vec<Misfit<'a>>, AllocError>
-    requires misfits { stacked inner_misfits.now ≡ outcomes (object_places (kind_layout (kind_of kind) (members_at (view tree.now))) (view tree.now)) }
-    requires inner { stacked inner.items ≡ all_doubted (object_places (kind_layout (kind_of kind) (members_at (view tree.now))) (view tree.now)) }
-    ensures { IfOk result (λ v. misfits_of v.items ≡ specs.object_doubts (members_at (view tree.now)) (checks (members_at (view tree.now))) (specs.doubters (members_at (view tree.now))) (kind_of kind)) }
+    requires misfits { stacked inner_misfits.now
+        ≡ outcomes (object_places (kind_layout (kind_of kind) (members_at (view tree.now))) (view tree.now)) }
+    requires inner { stacked inner.items
+        ≡ all_doubted (object_places (kind_layout (kind_of kind) (members_at (view tree.now))) (view tree.now)) }
+    ensures { IfOk result
+        (λ v. misfits_of v.items
+        ≡ specs.object_doubts (members_at (view tree.now)) (checks (members_at (view tree.now))) (specs.doubters (members_at (view tree.now))) (kind_of kind)) }
 {
     let own = own_doubts(alloc, object_kind(kind), tree, inner_misfits, inner)?;
     if takes_references(kind) && tree.get("$ref").is_some() {
@@ -176,8 +194,10 @@ fn array_doubts<'a>(
     inner: Vec<Outcome<'a>>,
 ) -> Result<Vec<Misfit<'a>>, AllocError>
     requires own { is_reference (kind_of kind) ≡ false }
-    requires inner { stacked inner.items ≡ all_doubted (array_places (item_target (of_kind (kind_of kind))) (items_at (view tree.now))) }
-    ensures { IfOk result (λ v. misfits_of v.items ≡ specs.array_doubts (specs.item_doubters (items_at (view tree.now))) (kind_of kind)) }
+    requires inner { stacked inner.items
+        ≡ all_doubted (array_places (item_target (of_kind (kind_of kind))) (items_at (view tree.now))) }
+    ensures { IfOk result
+        (λ v. misfits_of v.items ≡ specs.array_doubts (specs.item_doubters (items_at (view tree.now))) (kind_of kind)) }
 {
     let _tree = tree;
     match kind {

@@ -66,7 +66,8 @@ fn put_place<'a>(
     loss: Loss,
     found: &mut Vec<Dropped<'a>>,
 ) -> Result<(), AllocError>
-    ensures { OnOk result (all_dropped found.new.items ≡ all_dropped found.old.items ++ walk.along (path_of path.now.items) (specs.here (loss_of loss))) }
+    ensures { OnOk result (all_dropped found.new.items
+        ≡ all_dropped found.old.items ++ walk.along (path_of path.now.items) (specs.here (loss_of loss))) }
 {
     let mut steps = Vec::new(alloc);
     for step in path {
@@ -93,7 +94,8 @@ fn compare<'t, 'w>(
     ensures left { OnOk result (walk.left (path_of path.now.items) (stacked moves.new.items) ++ reverse (all_dropped found.new.items)
         ≡ (walk.left (path_of path.now.items) (stacked moves.old.items) ++ walk.along (path_of path.now.items) (specs.dropped (view tree.now) (view written.now)))
         ++ reverse (all_dropped found.old.items)) }
-    ensures fewer { OnOk result (2 + walk.work_left (moves_of moves.new.items) ≤ walk.work_left (moves_of moves.old.items) + 2 * values (view tree.now)) }
+    ensures fewer { OnOk result (2 + walk.work_left (moves_of moves.new.items)
+        ≤ walk.work_left (moves_of moves.old.items) + 2 * values (view tree.now)) }
 {
     if !is_alike(tree, written) {
         return put_place(alloc, path, Loss::Changed, found);
@@ -144,7 +146,8 @@ pub fn dropped_between<'t>(
     written: &Value,
 ) -> Result<Vec<Dropped<'t>>, AllocError>
     ensures exact { IfOk result (λ v. all_dropped v.items ≡ specs.dropped (view tree.now) (view written.now)) }
-    ensures places { IfOk result (λ v. (steps : List StepOf) (loss : specs.Loss) → IsListed (steps, loss) (all_dropped v.items) ↔ IsDropped steps loss (view tree.now) (view written.now)) }
+    ensures places { IfOk result (λ v. (steps : List StepOf) (loss : specs.Loss)
+        → IsListed (steps, loss) (all_dropped v.items) ↔ IsDropped steps loss (view tree.now) (view written.now)) }
     ensures nothing { IfOk result (λ v. (v.items ≡ []) ↔ Has (view written.now) (view tree.now)) }
 {
     let mut path = Vec::new(alloc);

@@ -41,7 +41,8 @@ pub(crate) fn put_mention<'a>(
     text: &'a str,
     found: &mut Vec<Mention<'a>>,
 ) -> Result<(), AllocError>
-    ensures { OnOk result (mentions_of found.new.items ≡ mentions_of found.old.items ++ specs.mention (step_of step.entry) (way_of way) text.now) }
+    ensures { OnOk result (mentions_of found.new.items
+        ≡ mentions_of found.old.items ++ specs.mention (step_of step.entry) (way_of way) text.now) }
 {
     let mut steps = Vec::new(alloc);
     steps.push(step)?;
@@ -61,7 +62,8 @@ pub(crate) fn put_text<'a>(
     member: &'a Value,
     found: &mut Vec<Mention<'a>>,
 ) -> Result<(), AllocError>
-    ensures { OnOk result (mentions_of found.new.items ≡ mentions_of found.old.items ++ specs.text_mention_of name.now (way_of way) (view member.now)) }
+    ensures { OnOk result (mentions_of found.new.items
+        ≡ mentions_of found.old.items ++ specs.text_mention_of name.now (way_of way) (view member.now)) }
 {
     match member.as_str() {
         Some(text) => put_mention(alloc, Step::Name(name), way, text, found),
@@ -75,7 +77,8 @@ pub(crate) fn put_mentions<'a>(
     inner: Vec<Mention<'a>>,
     found: &mut Vec<Mention<'a>>,
 ) -> Result<(), AllocError>
-    ensures { OnOk result (mentions_of found.new.items ≡ mentions_of found.old.items ++ specs.under (step_of step.entry) (mentions_of inner.entry.items)) }
+    ensures { OnOk result (mentions_of found.new.items
+        ≡ mentions_of found.old.items ++ specs.under (step_of step.entry) (mentions_of inner.entry.items)) }
 {
     for mut mention in inner {
         mention.pointer.steps.push(step)?;

@@ -93,7 +93,8 @@ pub(crate) fn put_under<'a>(
     inner: Vec<Misfit<'a>>,
     found: &mut Vec<Misfit<'a>>,
 ) -> Result<(), AllocError>
-    ensures { OnOk result (misfits_of found.new.items ≡ misfits_of found.old.items ++ specs.under (step_of step.entry) (misfits_of inner.entry.items)) }
+    ensures { OnOk result (misfits_of found.new.items
+        ≡ misfits_of found.old.items ++ specs.under (step_of step.entry) (misfits_of inner.entry.items)) }
 {
     for mut misfit in inner {
         misfit.pointer.steps.push(step)?;

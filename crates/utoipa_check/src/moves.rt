@@ -23,7 +23,8 @@ fn push_items<'t, 'w>(
     items: &'t Vec<Value>,
     written: &'w Value,
 ) -> Result<(), AllocError>
-    ensures { OnOk result (moves_of moves.new.items ≡ moves_of moves.old.items ++ specs.items_moves 0 (items_view items.now.items) (view written.now)) }
+    ensures { OnOk result (moves_of moves.new.items
+        ≡ moves_of moves.old.items ++ specs.items_moves 0 (items_view items.now.items) (view written.now)) }
 {
     let mut index: usize = 0;
     for item in items {
@@ -39,7 +40,8 @@ fn push_members<'t, 'w>(
     members: &'t Map<String, Value>,
     written: &'w Value,
 ) -> Result<(), AllocError>
-    ensures { OnOk result (moves_of moves.new.items ≡ moves_of moves.old.items ++ specs.members_moves (members_view members.now.entries) (view written.now)) }
+    ensures { OnOk result (moves_of moves.new.items
+        ≡ moves_of moves.old.items ++ specs.members_moves (members_view members.now.entries) (view written.now)) }
 {
     for (name, member) in members.iter() {
         let name = name.as_str();
@@ -54,7 +56,8 @@ pub(crate) fn push_inner<'t, 'w>(
     tree: &'t Value,
     written: &'w Value,
 ) -> Result<(), AllocError>
-    ensures { OnOk result (moves_of moves.new.items ≡ moves_of moves.old.items ++ specs.inner_moves (view tree.now) (view written.now)) }
+    ensures { OnOk result (moves_of moves.new.items
+        ≡ moves_of moves.old.items ++ specs.inner_moves (view tree.now) (view written.now)) }
 {
     match tree {
         Value::Array(items) => push_items(moves, items, written),

@@ -49,7 +49,8 @@ fn put_plain_row<'a>(
     found: &mut Vec<Misfit<'a>>,
 ) -> Result<(), AllocError>
     requires { is_plain_kind (kind_of row.now.kind) ≡ true }
-    ensures { OnOk result (misfits_of found.new.items ≡ misfits_of found.old.items ++ row_misfits_at row.now (view tree.now)) }
+    ensures { OnOk result (misfits_of found.new.items
+        ≡ misfits_of found.old.items ++ row_misfits_at row.now (view tree.now)) }
 {
     match tree.get(row.name) {
         None => {
@@ -72,7 +73,9 @@ pub(crate) fn reference_misfits<'a>(
     alloc: Global,
     tree: &'a Value,
 ) -> Result<Vec<Misfit<'a>>, AllocError>
-    ensures { IfOk result (λ v. misfits_of v.items ≡ specs.table_misfits kinds.reference_object (specs.checks (members_at (view tree.now)))) }
+    ensures { IfOk result
+        (λ v. misfits_of v.items
+        ≡ specs.table_misfits kinds.reference_object (specs.checks (members_at (view tree.now)))) }
 {
     let mut found = Vec::new(alloc);
     let rows = rows(ObjectType::ReferenceObject);
@@ -90,7 +93,9 @@ fn alternative_misfits<'a>(
     inner: Vec<Outcome<'a>>,
 ) -> Result<Vec<Misfit<'a>>, AllocError>
     requires { stacked inner.items ≡ outcomes (object_places (alternative_layout (some_kind kind)) (view tree.now)) }
-    ensures { IfOk result (λ v. misfits_of v.items ≡ specs.alternative_misfits (specs.checks (members_at (view tree.now))) (kind_of kind)) }
+    ensures { IfOk result
+        (λ v. misfits_of v.items
+        ≡ specs.alternative_misfits (specs.checks (members_at (view tree.now))) (kind_of kind)) }
 {
     match kind {
         Kind::Named(object_type) => misfits_by_rows(alloc, rows(object_type), tree, inner),
@@ -104,8 +109,11 @@ fn api_key_misfits<'a>(
     tree: &'a Value,
     inner: Vec<Outcome<'a>>,
 ) -> Result<Vec<Misfit<'a>>, AllocError>
-    requires { stacked inner.items ≡ outcomes (object_places (api_key_layout (members_at (view tree.now))) (view tree.now)) }
-    ensures { IfOk result (λ v. misfits_of v.items ≡ specs.api_key_misfits (members_at (view tree.now)) (specs.checks (members_at (view tree.now)))) }
+    requires { stacked inner.items
+        ≡ outcomes (object_places (api_key_layout (members_at (view tree.now))) (view tree.now)) }
+    ensures { IfOk result
+        (λ v. misfits_of v.items
+        ≡ specs.api_key_misfits (members_at (view tree.now)) (specs.checks (members_at (view tree.now)))) }
 {
     match choose(alloc, tree, "in", api_key_places(), api_key_place_words())? {
         Choosing::Of(kind) => alternative_misfits(alloc, kind, tree, inner),
@@ -119,8 +127,11 @@ fn security_scheme_misfits<'a>(
     tree: &'a Value,
     inner: Vec<Outcome<'a>>,
 ) -> Result<Vec<Misfit<'a>>, AllocError>
-    requires { stacked inner.items ≡ outcomes (object_places (kind_layout kinds.security_scheme (members_at (view tree.now))) (view tree.now)) }
-    ensures { IfOk result (λ v. misfits_of v.items ≡ specs.security_scheme_misfits (members_at (view tree.now)) (specs.checks (members_at (view tree.now)))) }
+    requires { stacked inner.items
+        ≡ outcomes (object_places (kind_layout kinds.security_scheme (members_at (view tree.now))) (view tree.now)) }
+    ensures { IfOk result
+        (λ v. misfits_of v.items
+        ≡ specs.security_scheme_misfits (members_at (view tree.now)) (specs.checks (members_at (view tree.now)))) }
 {
     match choose(alloc, tree, "type", scheme_types(), scheme_type_words())? {
         Choosing::Of(Kind::ApiKey) => api_key_misfits(alloc, tree, inner),
@@ -137,8 +148,11 @@ pub(crate) fn own_misfits<'a>(
     inner: Vec<Outcome<'a>>,
 ) -> Result<Vec<Misfit<'a>>, AllocError>
     requires own { takes_references (kind_of kind) ≡ false }
-    requires inner { stacked inner.items ≡ outcomes (object_places (kind_layout (kind_of kind) (members_at (view tree.now))) (view tree.now)) }
-    ensures { IfOk result (λ v. misfits_of v.items ≡ specs.object_misfits (members_at (view tree.now)) (specs.checks (members_at (view tree.now))) (kind_of kind)) }
+    requires inner { stacked inner.items
+        ≡ outcomes (object_places (kind_layout (kind_of kind) (members_at (view tree.now))) (view tree.now)) }
+    ensures { IfOk result
+        (λ v. misfits_of v.items
+        ≡ specs.object_misfits (members_at (view tree.now)) (specs.checks (members_at (view tree.now))) (kind_of kind)) }
 {
     match kind {
         Kind::Any => Ok(Vec::new(alloc)),
@@ -162,8 +176,11 @@ fn reference_or_own_misfits<'a>(
     inner: Vec<Outcome<'a>>,
 ) -> Result<Vec<Misfit<'a>>, AllocError>
     requires own { takes_references (kind_of kind) ≡ false }
-    requires inner { stacked inner.items ≡ outcomes (object_places (kind_layout (kind_of kind) (members_at (view tree.now))) (view tree.now)) }
-    ensures { IfOk result (λ v. misfits_of v.items ≡ specs.reference_or true (specs.table_misfits kinds.reference_object (specs.checks (members_at (view tree.now))))
+    requires inner { stacked inner.items
+        ≡ outcomes (object_places (kind_layout (kind_of kind) (members_at (view tree.now))) (view tree.now)) }
+    ensures { IfOk result
+        (λ v. misfits_of v.items
+        ≡ specs.reference_or true (specs.table_misfits kinds.reference_object (specs.checks (members_at (view tree.now))))
         (specs.object_misfits (members_at (view tree.now)) (specs.checks (members_at (view tree.now))) (kind_of kind))) }
 {
     let reference = reference_misfits(alloc, tree)?;
@@ -184,8 +201,11 @@ pub(crate) fn object_misfits<'a>(
     tree: &'a Value,
     inner: Vec<Outcome<'a>>,
 ) -> Result<Vec<Misfit<'a>>, AllocError>
-    requires { stacked inner.items ≡ outcomes (object_places (kind_layout (kind_of kind) (members_at (view tree.now))) (view tree.now)) }
-    ensures { IfOk result (λ v. misfits_of v.items ≡ specs.object_misfits (members_at (view tree.now)) (specs.checks (members_at (view tree.now))) (kind_of kind)) }
+    requires { stacked inner.items
+        ≡ outcomes (object_places (kind_layout (kind_of kind) (members_at (view tree.now))) (view tree.now)) }
+    ensures { IfOk result
+        (λ v. misfits_of v.items
+        ≡ specs.object_misfits (members_at (view tree.now)) (specs.checks (members_at (view tree.now))) (kind_of kind)) }
 {
     if takes_references(kind) && tree.get("$ref").is_some() {
         return reference_or_own_misfits(alloc, object_kind(kind), tree, inner);

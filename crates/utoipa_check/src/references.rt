@@ -41,10 +41,15 @@ fn end_mentions<'a>(
     outcomes: &Vec<Outcome<'a>>,
     found: &mut Vec<Mentioned<'a>>,
 ) -> Result<(), AllocError>
-    requires outcomes { (rest : List places.Outcome) × (stacked outcomes.now.items ≡ places.outcomes (places.inner_places (place_of task.now).target (place_of task.now).tree) ++ rest) × (below ≡ length rest) }
-    requires found { (rest : List mentioned.Mentioned) × (stacked_mentioned found.old.items ≡ mentioned.all_mentioned (places.inner_places (place_of task.now).target (place_of task.now).tree) ++ rest) × (below ≡ length rest) }
+    requires outcomes { (rest : List places.Outcome) × (stacked outcomes.now.items
+        ≡ places.outcomes (places.inner_places (place_of task.now).target (place_of task.now).tree) ++ rest)
+        × (below ≡ length rest) }
+    requires found { (rest : List mentioned.Mentioned) × (stacked_mentioned found.old.items
+        ≡ mentioned.all_mentioned (places.inner_places (place_of task.now).target (place_of task.now).tree) ++ rest)
+        × (below ≡ length rest) }
     ensures { OnOk result ((rest : List mentioned.Mentioned)
-        → stacked_mentioned found.old.items ≡ mentioned.all_mentioned (places.inner_places (place_of task.now).target (place_of task.now).tree) ++ rest
+        → stacked_mentioned found.old.items
+        ≡ mentioned.all_mentioned (places.inner_places (place_of task.now).target (place_of task.now).tree) ++ rest
         → below ≡ length rest → stacked_mentioned found.new.items ≡ mentioned.mentioned (place_of task.now) ∷ rest) }
 {
     let inner = found.split_off(below)?;

@@ -34,8 +34,10 @@ fn put_row_mentions<'a>(
     found: &mut Vec<Mention<'a>>,
 ) -> Result<(), AllocError>
     ensures { OnOk result ((rest : List mentioned.Mentioned)
-        → stacked_mentioned inner.old.items ≡ all_mentioned (field_places row.now.name.now (kind_of row.now.kind) (get row.now.name.now (view tree.now))) ++ rest
-        → (stacked_mentioned inner.new.items ≡ rest) × (mentions_of found.new.items ≡ mentions_of found.old.items ++ row_mentions_at row.now (view tree.now))) }
+        → stacked_mentioned inner.old.items
+        ≡ all_mentioned (field_places row.now.name.now (kind_of row.now.kind) (get row.now.name.now (view tree.now))) ++ rest
+        → (stacked_mentioned inner.new.items ≡ rest) × (mentions_of found.new.items
+        ≡ mentions_of found.old.items ++ row_mentions_at row.now (view tree.now))) }
 {
     if tree.get(row.name).is_none() {
         return Ok(());
@@ -56,7 +58,9 @@ fn mentions_by_rows<'a>(
     inner: Vec<Mentioned<'a>>,
 ) -> Result<Vec<Mention<'a>>, AllocError>
     requires { stacked_mentioned inner.items ≡ all_mentioned (fields_places (members_of rows.now) (view tree.now)) }
-    ensures { IfOk result (λ v. mentions_of v.items ≡ specs.rows_mentions (rows_of rows.now) (specs.mentioners (members_at (view tree.now)))) }
+    ensures { IfOk result
+        (λ v. mentions_of v.items
+        ≡ specs.rows_mentions (rows_of rows.now) (specs.mentioners (members_at (view tree.now)))) }
 {
     let mut found = Vec::new(alloc);
     let mut left = inner;
@@ -73,8 +77,11 @@ fn named_mentions<'a>(
     tree: &'a Value,
     inner: Vec<Mentioned<'a>>,
 ) -> Result<Vec<Mention<'a>>, AllocError>
-    requires { stacked_mentioned inner.items ≡ all_mentioned (object_places (kind_layout (kind_of (Kind.Named object_type)) (members_at (view tree.now))) (view tree.now)) }
-    ensures { IfOk result (λ v. mentions_of v.items ≡ specs.named_mentions (type_of object_type) (members_at (view tree.now)) (specs.mentioners (members_at (view tree.now)))) }
+    requires { stacked_mentioned inner.items
+        ≡ all_mentioned (object_places (kind_layout (kind_of (Kind.Named object_type)) (members_at (view tree.now))) (view tree.now)) }
+    ensures { IfOk result
+        (λ v. mentions_of v.items
+        ≡ specs.named_mentions (type_of object_type) (members_at (view tree.now)) (specs.mentioners (members_at (view tree.now)))) }
 {
     match object_type {
         ObjectType::ReferenceObject => own_mention(alloc, tree),
@@ -126,9 +133,13 @@ fn own_mentions<'a>(
     inner: Vec<Mentioned<'a>>,
 ) -> Result<Vec<Mention<'a>>, AllocError>
     requires own { takes_references (kind_of kind) ≡ false }
-    requires outcomes { stacked outcomes.now ≡ places.outcomes (object_places (kind_layout (kind_of kind) (members_at (view tree.now))) (view tree.now)) }
-    requires inner { stacked_mentioned inner.items ≡ all_mentioned (object_places (kind_layout (kind_of kind) (members_at (view tree.now))) (view tree.now)) }
-    ensures { IfOk result (λ v. mentions_of v.items ≡ specs.object_mentions (members_at (view tree.now)) (checks (members_at (view tree.now))) (specs.mentioners (members_at (view tree.now))) (kind_of kind)) }
+    requires outcomes { stacked outcomes.now
+        ≡ places.outcomes (object_places (kind_layout (kind_of kind) (members_at (view tree.now))) (view tree.now)) }
+    requires inner { stacked_mentioned inner.items
+        ≡ all_mentioned (object_places (kind_layout (kind_of kind) (members_at (view tree.now))) (view tree.now)) }
+    ensures { IfOk result
+        (λ v. mentions_of v.items
+        ≡ specs.object_mentions (members_at (view tree.now)) (checks (members_at (view tree.now))) (specs.mentioners (members_at (view tree.now))) (kind_of kind)) }
 {
     match kind {
         Kind::MapOf(entry) => {
@@ -155,9 +166,13 @@ fn object_mentions<'a>(
     outcomes: &[Outcome<'_>],
     inner: Vec<Mentioned<'a>>,
 ) -> Result<Vec<Mention<'a>>, AllocError>
-    requires outcomes { stacked outcomes.now ≡ places.outcomes (object_places (kind_layout (kind_of kind) (members_at (view tree.now))) (view tree.now)) }
-    requires inner { stacked_mentioned inner.items ≡ all_mentioned (object_places (kind_layout (kind_of kind) (members_at (view tree.now))) (view tree.now)) }
-    ensures { IfOk result (λ v. mentions_of v.items ≡ specs.object_mentions (members_at (view tree.now)) (checks (members_at (view tree.now))) (specs.mentioners (members_at (view tree.now))) (kind_of kind)) }
+    requires outcomes { stacked outcomes.now
+        ≡ places.outcomes (object_places (kind_layout (kind_of kind) (members_at (view tree.now))) (view tree.now)) }
+    requires inner { stacked_mentioned inner.items
+        ≡ all_mentioned (object_places (kind_layout (kind_of kind) (members_at (view tree.now))) (view tree.now)) }
+    ensures { IfOk result
+        (λ v. mentions_of v.items
+        ≡ specs.object_mentions (members_at (view tree.now)) (checks (members_at (view tree.now))) (specs.mentioners (members_at (view tree.now))) (kind_of kind)) }
 {
     if takes_references(kind) {
         let is_reference = fits_reference(alloc, tree)?;
@@ -176,8 +191,11 @@ fn array_mentions<'a>(
     inner: Vec<Mentioned<'a>>,
 ) -> Result<Vec<Mention<'a>>, AllocError>
     requires own { is_reference (kind_of kind) ≡ false }
-    requires inner { stacked_mentioned inner.items ≡ all_mentioned (array_places (item_target (of_kind (kind_of kind))) (items_at (view tree.now))) }
-    ensures { IfOk result (λ v. mentions_of v.items ≡ specs.array_mentions (specs.item_mentioners (items_at (view tree.now))) (kind_of kind)) }
+    requires inner { stacked_mentioned inner.items
+        ≡ all_mentioned (array_places (item_target (of_kind (kind_of kind))) (items_at (view tree.now))) }
+    ensures { IfOk result
+        (λ v. mentions_of v.items
+        ≡ specs.array_mentions (specs.item_mentioners (items_at (view tree.now))) (kind_of kind)) }
 {
     let _tree = tree;
     match kind {
@@ -195,7 +213,8 @@ fn document_mentions<'a>(
     inner: Vec<Mentioned<'a>>,
 ) -> Result<Vec<Mention<'a>>, AllocError>
     requires outcomes { stacked outcomes.now ≡ places.outcomes (inner_places (of_kind (kind_of kind)) (view tree.now)) }
-    requires inner { stacked_mentioned inner.items ≡ all_mentioned (inner_places (of_kind (kind_of kind)) (view tree.now)) }
+    requires inner { stacked_mentioned inner.items
+        ≡ all_mentioned (inner_places (of_kind (kind_of kind)) (view tree.now)) }
     ensures { IfOk result (λ v. mentions_of v.items ≡ specs.mentions (kind_of kind) (view tree.now)) }
 {
     match tree {

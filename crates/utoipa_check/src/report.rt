@@ -32,10 +32,13 @@ pub struct Report<'a> {
 /// There are none exactly where the tree reads as a document of the kind. Each place is looked at once, whatever the alternatives of
 /// a choice, and once more for fractions where there are any.
 pub fn misfits<'a>(alloc: Global, kind: Kind, tree: &'a Value) -> Result<Report<'a>, AllocError>
-    ensures found { IfOk result (λ r. misfits_of r.misfits.items ≡ misfits_and_fractions (kind_of kind) (view tree.now)) }
-    ensures exact { IfOk result (λ r. (r.misfits.items ≡ []) ↔ ((doc : Doc) × ReadsAs (kind_of kind) (view tree.now) doc)) }
+    ensures found { IfOk result (λ r. misfits_of r.misfits.items
+        ≡ misfits_and_fractions (kind_of kind) (view tree.now)) }
+    ensures exact { IfOk result (λ r. (r.misfits.items ≡ [])
+        ↔ ((doc : Doc) × ReadsAs (kind_of kind) (view tree.now) doc)) }
     ensures sound { IfOk result (λ r. AllTrue (view tree.now) (misfits_of r.misfits.items)) }
-    ensures visits { IfOk result (λ r. r.visits ≤ (if has_float (view tree.now) then 2 * values (view tree.now) else values (view tree.now))) }
+    ensures visits { IfOk result
+        (λ r. r.visits ≤ (if has_float (view tree.now) then 2 * values (view tree.now) else values (view tree.now))) }
 {
     let mut visits = 0;
     let mut misfits = walk(alloc, Target::Document(kind), tree, &mut visits)?;

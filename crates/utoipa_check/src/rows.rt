@@ -48,8 +48,10 @@ fn put_row<'a>(
     found: &mut Vec<Misfit<'a>>,
 ) -> Result<(), AllocError>
     ensures { OnOk result ((rest : List places.Outcome)
-        → stacked inner.old.items ≡ outcomes (field_places row.now.name.now (kind_of row.now.kind) (get row.now.name.now (view tree.now))) ++ rest
-        → (stacked inner.new.items ≡ rest) × (misfits_of found.new.items ≡ misfits_of found.old.items ++ row_misfits_at row.now (view tree.now))) }
+        → stacked inner.old.items
+        ≡ outcomes (field_places row.now.name.now (kind_of row.now.kind) (get row.now.name.now (view tree.now))) ++ rest
+        → (stacked inner.new.items ≡ rest) × (misfits_of found.new.items
+        ≡ misfits_of found.old.items ++ row_misfits_at row.now (view tree.now))) }
 {
     match tree.get(row.name) {
         None => {
@@ -76,7 +78,8 @@ pub(crate) fn misfits_by_rows<'a>(
     inner: Vec<Outcome<'a>>,
 ) -> Result<Vec<Misfit<'a>>, AllocError>
     requires { stacked inner.items ≡ outcomes (fields_places (members_of rows.now) (view tree.now)) }
-    ensures { IfOk result (λ v. misfits_of v.items ≡ rows_misfits (rows_of rows.now) (checks (members_at (view tree.now)))) }
+    ensures { IfOk result
+        (λ v. misfits_of v.items ≡ rows_misfits (rows_of rows.now) (checks (members_at (view tree.now)))) }
 {
     let mut found = Vec::new(alloc);
     let mut left = inner;
@@ -90,9 +93,11 @@ pub(crate) fn misfits_by_rows<'a>(
 fn after_row(row: &Row, tree: &Value, inner: &[Outcome<'_>], left: usize) -> Option<usize>
     requires { left ≤ length inner.now }
     ensures { (rest : List places.Outcome)
-        → stacked (take left inner.now) ≡ outcomes (field_places row.now.name.now (kind_of row.now.kind) (get row.now.name.now (view tree.now))) ++ rest
+        → stacked (take left inner.now)
+        ≡ outcomes (field_places row.now.name.now (kind_of row.now.kind) (get row.now.name.now (view tree.now))) ++ rest
         → MatchOption result (is_fit (row_misfits_at row.now (view tree.now)) ≡ false)
-        (λ later. (stacked (take later inner.now) ≡ rest) × (later ≤ left) × (is_fit (row_misfits_at row.now (view tree.now)) ≡ true)) }
+        (λ later. (stacked (take later inner.now) ≡ rest) × (later ≤ left)
+        × (is_fit (row_misfits_at row.now (view tree.now)) ≡ true)) }
 {
     let Some(member) = tree.get(row.name) else {
         return if is_required(row.mark) {

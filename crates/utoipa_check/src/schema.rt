@@ -76,7 +76,8 @@ pub(crate) fn fits_schema(tree: &Value, inner: &[Outcome<'_>]) -> bool
 /// none fits the one that was meant.
 pub(crate) fn taken_schema(tree: &Value, inner: &[Outcome<'_>]) -> SchemaAlternative
     requires { stacked inner.now ≡ outcomes (fields_places schema_members (view tree.now)) }
-    ensures { schema_type result ≡ taken_schema (members_at (view tree.now)) (specs.checks (members_at (view tree.now))) }
+    ensures { schema_type result
+        ≡ taken_schema (members_at (view tree.now)) (specs.checks (members_at (view tree.now))) }
 {
     if fits_rows(schema_rows(SchemaAlternative::OneOf), tree, inner) {
         return SchemaAlternative::OneOf;
@@ -103,7 +104,9 @@ pub(crate) fn schema_misfits<'a>(
     inner: Vec<Outcome<'a>>,
 ) -> Result<Vec<Misfit<'a>>, AllocError>
     requires { stacked inner.items ≡ outcomes (fields_places schema_members (view tree.now)) }
-    ensures { IfOk result (λ v. misfits_of v.items ≡ specs.schema_misfits (members_at (view tree.now)) (specs.checks (members_at (view tree.now)))) }
+    ensures { IfOk result
+        (λ v. misfits_of v.items
+        ≡ specs.schema_misfits (members_at (view tree.now)) (specs.checks (members_at (view tree.now)))) }
 {
     if fits_schema(tree, &inner) {
         return Ok(Vec::new(alloc));
@@ -118,7 +121,8 @@ pub(crate) fn schema_misfits<'a>(
 /// Whether an object fits a type of an OAuth flow.
 fn fits_any_flow(tree: &Value, inner: &[Outcome<'_>]) -> bool
     requires { stacked inner.now ≡ outcomes (fields_places flow_members (view tree.now)) }
-    ensures { result ≡ list_any (λ k. specs.is_fit (specs.object_misfits (members_at (view tree.now)) (specs.checks (members_at (view tree.now))) k)) (flow_kinds flow_keys) }
+    ensures { result ≡ list_any
+        (λ k. specs.is_fit (specs.object_misfits (members_at (view tree.now)) (specs.checks (members_at (view tree.now))) k)) (flow_kinds flow_keys) }
 {
     fits_rows(flow_rows(FlowAlternative::Implicit), tree, inner)
         || fits_rows(flow_rows(FlowAlternative::Password), tree, inner)

@@ -50,7 +50,8 @@ fn push_items<'a>(
     target: Target,
     items: &'a Vec<Value>,
 ) -> Result<(), AllocError>
-    ensures { OnOk result (tasks_of tasks.new.items ≡ tasks_of tasks.old.items ++ visits (specs.items_places (target_of target) 0 (items_view items.now.items))) }
+    ensures { OnOk result (tasks_of tasks.new.items
+        ≡ tasks_of tasks.old.items ++ visits (specs.items_places (target_of target) 0 (items_view items.now.items))) }
 {
     let mut index: usize = 0;
     for item in items {
@@ -66,7 +67,8 @@ fn push_members<'a>(
     layout: Layout,
     members: &'a Map<String, Value>,
 ) -> Result<(), AllocError>
-    ensures { OnOk result (tasks_of tasks.new.items ≡ tasks_of tasks.old.items ++ visits (specs.members_places (layout_of layout) (members_view members.now.entries))) }
+    ensures { OnOk result (tasks_of tasks.new.items
+        ≡ tasks_of tasks.old.items ++ visits (specs.members_places (layout_of layout) (members_view members.now.entries))) }
 {
     for (name, member) in members.iter() {
         if let Some(target) = target_at(layout, name.as_str()) {
@@ -82,7 +84,8 @@ fn push_rows<'a>(
     rows: &'static [Row],
     tree: &'a Value,
 ) -> Result<(), AllocError>
-    ensures { OnOk result (tasks_of tasks.new.items ≡ tasks_of tasks.old.items ++ visits (specs.fields_places (members_of rows.now) (view tree.now))) }
+    ensures { OnOk result (tasks_of tasks.new.items
+        ≡ tasks_of tasks.old.items ++ visits (specs.fields_places (members_of rows.now) (view tree.now))) }
 {
     for row in rows {
         if let Some(member) = tree.get(row.name) {
@@ -103,7 +106,8 @@ pub(crate) fn push_inner<'a>(
     target: Target,
     tree: &'a Value,
 ) -> Result<(), AllocError>
-    ensures { OnOk result (tasks_of tasks.new.items ≡ tasks_of tasks.old.items ++ visits (specs.inner_places (target_of target) (view tree.now))) }
+    ensures { OnOk result (tasks_of tasks.new.items
+        ≡ tasks_of tasks.old.items ++ visits (specs.inner_places (target_of target) (view tree.now))) }
 {
     match tree {
         Value::Array(items) => match item_target(target) {

@@ -23,8 +23,11 @@ fn array_misfits<'a>(
     inner: Vec<Outcome<'a>>,
 ) -> Result<Vec<Misfit<'a>>, AllocError>
     requires own { is_reference (kind_of kind) ≡ false }
-    requires inner { stacked inner.items ≡ outcomes (array_places (item_target (of_kind (kind_of kind))) (items_at (view tree.now))) }
-    ensures { IfOk result (λ v. misfits_of v.items ≡ specs.array_misfits (specs.item_checkers (items_at (view tree.now))) (kind_of kind)) }
+    requires inner { stacked inner.items
+        ≡ outcomes (array_places (item_target (of_kind (kind_of kind))) (items_at (view tree.now))) }
+    ensures { IfOk result
+        (λ v. misfits_of v.items
+        ≡ specs.array_misfits (specs.item_checkers (items_at (view tree.now))) (kind_of kind)) }
 {
     match kind {
         Kind::Any => Ok(Vec::new(alloc)),

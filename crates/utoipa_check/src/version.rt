@@ -37,7 +37,8 @@ impl Numbers {
 
     /// With the number of a piece, if it counts.
     fn and_piece(self, piece: &str) -> Numbers
-        ensures { (rest : List ℤ) → names_version_after result rest ≡ names_version_after self (and_number (piece_number piece.now) rest) }
+        ensures { (rest : List ℤ) → names_version_after result rest
+            ≡ names_version_after self (and_number (piece_number piece.now) rest) }
     {
         match number_of(piece) {
             Some(number) => self.and(number),

@@ -19,7 +19,8 @@ pub(crate) fn begin_place<'a>(
     below: usize,
     tasks: &mut Vec<Task<'a>>,
 ) -> Result<(), AllocError>
-    ensures { OnOk result (tasks_of tasks.new.items ≡ (tasks_of tasks.old.items ++ places.join (place_of task.entry) below ∷ [])
+    ensures { OnOk result (tasks_of tasks.new.items
+        ≡ (tasks_of tasks.old.items ++ places.join (place_of task.entry) below ∷ [])
         ++ places.visits (places.inner_places (place_of task.entry).target (place_of task.entry).tree)) }
 {
     tasks.push(Task {
@@ -38,9 +39,12 @@ pub(crate) fn end_place<'a>(
     below: usize,
     outcomes: &mut Vec<Outcome<'a>>,
 ) -> Result<(), AllocError>
-    requires { (rest : List places.Outcome) × (stacked outcomes.old.items ≡ places.outcomes (places.inner_places (place_of task).target (place_of task).tree) ++ rest) × (below ≡ length rest) }
+    requires { (rest : List places.Outcome) × (stacked outcomes.old.items
+        ≡ places.outcomes (places.inner_places (place_of task).target (place_of task).tree) ++ rest)
+        × (below ≡ length rest) }
     ensures { OnOk result ((rest : List places.Outcome)
-        → stacked outcomes.old.items ≡ places.outcomes (places.inner_places (place_of task.entry).target (place_of task.entry).tree) ++ rest
+        → stacked outcomes.old.items
+        ≡ places.outcomes (places.inner_places (place_of task.entry).target (place_of task.entry).tree) ++ rest
         → below ≡ length rest → stacked outcomes.new.items ≡ places.outcome (place_of task.entry) ∷ rest) }
 {
     let inner = outcomes.split_off(below)?;

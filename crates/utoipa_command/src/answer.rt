@@ -74,7 +74,8 @@ pub fn document_of<T: Tree>(alloc: Global, text: &[u8]) -> Result<T, Refusal>
 
 // The document on a line.
 fn line<T: Tree>(alloc: Global, document: &T) -> Result<Vec<u8>, Refusal>
-    ensures ok { IfOk result (λ line. has_float (write (T.doc document.now)) ≡ false → line.items ≡ line_of (write (T.doc document.now))) }
+    ensures ok { IfOk result (λ line. has_float (write (T.doc document.now)) ≡ false
+        → line.items ≡ line_of (write (T.doc document.now))) }
     ensures err { IfErr result (λ w. w ≡ Refusal.Memory) }
 {
     let mut line = document.to_json(alloc)?;

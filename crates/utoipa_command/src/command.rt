@@ -109,9 +109,11 @@ fn serve<R: Source, W: Sink>(
     ensures failed { IfErr result (λ w. w ≡ Refusal.Read → R.may_have_failed input.new ≡ true) }
     ensures all_read { OnOk result (R.may_have_failed input.new ≡ R.may_have_failed input.old) }
     ensures all_written { OnOk result (W.may_have_failed out.new ≡ W.may_have_failed out.old) }
-    ensures read_on_refusal { IfErr result (λ w. w ≢ Refusal.Read → R.may_have_failed input.new ≡ R.may_have_failed input.old) }
+    ensures read_on_refusal { IfErr result (λ w. w ≢ Refusal.Read
+        → R.may_have_failed input.new ≡ R.may_have_failed input.old) }
     ensures end { OnOk result (IsAtEnd (R.remaining input.new)) }
-    ensures refused_at_end { IfErr result (λ w. w ≢ Refusal.Memory → w ≢ Refusal.Read → IsAtEnd (R.remaining input.new)) }
+    ensures refused_at_end { IfErr result (λ w. w ≢ Refusal.Memory → w ≢ Refusal.Read
+        → IsAtEnd (R.remaining input.new)) }
 {
     let text = read_all(alloc, input)?;
     let line = answer(alloc, command, text.as_slice())?;

@@ -16,7 +16,8 @@ pub fn read_all<R: Source>(alloc: Global, input: &mut R) -> Result<Vec<u8>, Refu
 
     // A fault of the reader is never passed over.
     ensures all_read { OnOk result (R.may_have_failed input.new ≡ R.may_have_failed input.old) }
-    ensures read_on_refusal { IfErr result (λ w. w ≢ Refusal.Read → R.may_have_failed input.new ≡ R.may_have_failed input.old) }
+    ensures read_on_refusal { IfErr result (λ w. w ≢ Refusal.Read
+        → R.may_have_failed input.new ≡ R.may_have_failed input.old) }
 {
     let mut text = Vec::new(alloc);
     let mut chunk = [0u8; 4096];

@@ -183,7 +183,8 @@ pub fn tree_conflicts<'a>(
     trees: &'a [Value],
 ) -> Result<Vec<Conflict<'a>>, AllocError>
     ensures exact { IfOk result (λ v. all_conflicts v.items ≡ specs.conflicts (trees_of trees.now)) }
-    ensures listed { IfOk result (λ v. (p : Place) (i j : ℕ) → IsOneOf (p, i, j) (all_conflicts v.items) ↔ IsConflict (trees_of trees.now) p i j) }
+    ensures listed { IfOk result (λ v. (p : Place) (i j : ℕ) → IsOneOf (p, i, j) (all_conflicts v.items)
+        ↔ IsConflict (trees_of trees.now) p i j) }
     ensures nothing { IfOk result (λ v. (v.items ≡ []) ↔ AllKept (trees_of trees.now)) }
     ensures kept { IfOk result (λ v. (v.items ≡ []) ↔ IsAllKept (trees_of trees.now)) }
     ensures once { IfOk result (λ _. All IsNamedOnce (trees_of trees.now)) }

@@ -70,7 +70,8 @@ pub(crate) fn deciders<'a>(
     alloc: Global,
     trees: &'a [Value],
 ) -> Result<BTreeMap<Holder<'a>, Document<'a>>, AllocError>
-    ensures decided { IfOk result (λ m. (h : specs.Holder) → noted m h ≡ specs.deciding h (specs.numbered 0 (trees_of trees.now))) }
+    ensures decided { IfOk result (λ m. (h : specs.Holder) → noted m h
+        ≡ specs.deciding h (specs.numbered 0 (trees_of trees.now))) }
     ensures apart { IfOk result (λ _. All lists.IsApartWithin (trees_of trees.now)) }
 {
     let mut deciders = BTreeMap::new(alloc);

@@ -50,7 +50,8 @@ fn push_kind<'a>(
     kind: &'a str,
     member: &'a Value,
 ) -> Result<(), AllocError>
-    ensures listed { OnOk result (all_holders holders.new.items ≡ all_holders holders.old.items ++ lists.component_holders kind.now (view member.now)) }
+    ensures listed { OnOk result (all_holders holders.new.items
+        ≡ all_holders holders.old.items ++ lists.component_holders kind.now (view member.now)) }
     ensures apart { OnOk result (lists.IsApart kind.now (view member.now)) }
 {
     match member {
@@ -98,7 +99,8 @@ fn push_member<'a>(
     name: &'a str,
     member: &'a Value,
 ) -> Result<(), AllocError>
-    ensures listed { OnOk result (all_holders holders.new.items ≡ all_holders holders.old.items ++ lists.item_holders path.now name.now (view member.now)) }
+    ensures listed { OnOk result (all_holders holders.new.items
+        ≡ all_holders holders.old.items ++ lists.item_holders path.now name.now (view member.now)) }
     ensures apart { OnOk result (lists.IsMemberApart name.now (view member.now)) }
 {
     holders.push(Holder::ItemMember(path, name))?;
@@ -133,7 +135,8 @@ fn push_entry<'a>(
     path: &'a str,
     entry: &'a Value,
 ) -> Result<(), AllocError>
-    ensures listed { OnOk result (all_holders holders.new.items ≡ all_holders holders.old.items ++ lists.path_holders path.now (view entry.now)) }
+    ensures listed { OnOk result (all_holders holders.new.items
+        ≡ all_holders holders.old.items ++ lists.path_holders path.now (view entry.now)) }
     ensures apart { OnOk result (lists.IsItemApart path.now (view entry.now)) }
 {
     holders.push(Holder::PathEntry(path))?;
@@ -194,7 +197,8 @@ fn push_paths_of<'a>(holders: &mut Vec<Holder<'a>>, document: &'a Value) -> Resu
 
 /// The holders of a document. Fails where memory runs out.
 pub(crate) fn holders<'a>(alloc: Global, document: &'a Value) -> Result<Holders<'a>, AllocError>
-    ensures listed { IfOk result (λ v. (h : specs.Holder) → lists.is_among h (all_holders v.items) ≡ specs.has h (view document.now)) }
+    ensures listed { IfOk result (λ v. (h : specs.Holder) → lists.is_among h (all_holders v.items)
+        ≡ specs.has h (view document.now)) }
     ensures apart { IfOk result (λ _. lists.IsApartWithin (view document.now)) }
 {
     let mut holders = Vec::new(alloc);

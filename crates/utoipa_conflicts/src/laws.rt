@@ -78,7 +78,8 @@ pub fn conflicts_are_what_is_lost()
 /// At each path of what comes of nesting stands the item that is put there, the last of those that were answered alike, or else the item of
 /// the document that is nested into.
 pub fn nested_items_stand_whole()
-    ensures { (answers : List (List ℕ)) (own other d : Doc) → AreNestedInto answers own other d → (path : List ℕ) → is_extension path ≡ false
+    ensures { (answers : List (List ℕ)) (own other d : Doc) → AreNestedInto answers own other d → (path : List ℕ)
+        → is_extension path ≡ false
         → at_place (place_of_item path) (write d)
         ≡ option_or (put_at (answered answers (path_items (write other))) path) (at_place (place_of_item path) (write own)) }
 {}
@@ -86,6 +87,8 @@ pub fn nested_items_stand_whole()
 /// What is told of nesting is what is lost by it: a value is told exactly where it stood in the document that is nested into, or was to be put
 /// from the nested one, and what comes of nesting has nothing there, or another value.
 pub fn nested_conflicts_are_what_is_lost()
-    ensures { (answers : List (List ℕ)) (own other d : Doc) → AreNestedInto answers own other d → IsNamedOnce (write own) → IsNamedOnce (write other)
-        → (p : Place) (j : ℕ) → ((i : ℕ) × IsOneOf (p, i, j) (nested_conflicts answers (write own) (write other))) ↔ IsLostByNesting answers own other d p j }
+    ensures { (answers : List (List ℕ)) (own other d : Doc) → AreNestedInto answers own other d
+        → IsNamedOnce (write own) → IsNamedOnce (write other)
+        → (p : Place) (j : ℕ) → ((i : ℕ) × IsOneOf (p, i, j) (nested_conflicts answers (write own) (write other)))
+        ↔ IsLostByNesting answers own other d p j }
 {}

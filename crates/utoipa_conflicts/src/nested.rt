@@ -36,7 +36,8 @@ fn push_item<'a>(
     path: &'a str,
     item: &'a Value,
 ) -> Result<(), AllocError>
-    ensures { OnOk result (all_items items.new.items ≡ all_items items.old.items ++ specs.item_unless_extension path.now (view item.now)) }
+    ensures { OnOk result (all_items items.new.items
+        ≡ all_items items.old.items ++ specs.item_unless_extension path.now (view item.now)) }
 {
     if is_extension_name(path) {
         return Ok(());
@@ -50,7 +51,8 @@ fn push_items<'a>(
     items: &mut Vec<ItemAt<'a>>,
     paths: &'a Map<String, Value>,
 ) -> Result<(), AllocError>
-    ensures { OnOk result (all_items items.new.items ≡ all_items items.old.items ++ each_member specs.item_unless_extension (members_view paths.now.entries)) }
+    ensures { OnOk result (all_items items.new.items
+        ≡ all_items items.old.items ++ each_member specs.item_unless_extension (members_view paths.now.entries)) }
 {
     for (path, item) in paths.iter() {
         push_item(items, path.as_str(), item)?;
@@ -60,7 +62,8 @@ fn push_items<'a>(
 
 /// Adds the items of a document's `paths`, if it has any. Fails where memory runs out.
 fn push_items_of<'a>(items: &mut Vec<ItemAt<'a>>, document: &'a Value) -> Result<(), AllocError>
-    ensures { OnOk result (all_items items.new.items ≡ all_items items.old.items ++ specs.path_items (view document.now)) }
+    ensures { OnOk result (all_items items.new.items
+        ≡ all_items items.old.items ++ specs.path_items (view document.now)) }
 {
     match document.get("paths") {
         Some(paths) => match paths {
@@ -86,7 +89,8 @@ fn answered<'a>(
     answers: &'a [String],
     items: &Vec<ItemAt<'a>>,
 ) -> Result<Items<'a>, AllocError>
-    ensures { IfOk result (λ v. all_items v.items ≡ specs.answered (map string_bytes answers.now) (all_items items.now.items)) }
+    ensures { IfOk result
+        (λ v. all_items v.items ≡ specs.answered (map string_bytes answers.now) (all_items items.now.items)) }
 {
     let mut put = Vec::new(alloc);
     let mut answers = answers.iter();
@@ -107,7 +111,8 @@ fn put_items<'a>(
     alloc: Global,
     items: &Vec<ItemAt<'a>>,
 ) -> Result<BTreeMap<String, &'a Value>, AllocError>
-    ensures { IfOk result (λ m. (path : List ℕ) → option_map (λ v. view v.now) (get_by_text m path) ≡ specs.put_at (all_items items.now.items) path) }
+    ensures { IfOk result (λ m. (path : List ℕ) → option_map (λ v. view v.now) (get_by_text m path)
+        ≡ specs.put_at (all_items items.now.items) path) }
 {
     let mut put = BTreeMap::new(alloc);
     for item in items {
@@ -161,7 +166,8 @@ fn put_covered<'a>(
     found: &mut Vec<Conflict<'a>>,
 ) -> Result<(), AllocError>
     ensures { OnOk result (all_conflicts found.new.items ≡ all_conflicts found.old.items
-        ++ flat_map (λ i. specs.unless_same (place_of_item i.0) 1 number i.1 (option_map (λ v. view v.now) (get_by_text put.now i.0))) (all_items items.now.items)) }
+        ++ flat_map (λ i. specs.unless_same (place_of_item i.0) 1 number i.1 (option_map
+        (λ v. view v.now) (get_by_text put.now i.0))) (all_items items.now.items)) }
 {
     for item in items {
         put_if_covered(alloc, put, number, *item, found)?;
@@ -229,7 +235,9 @@ pub fn tree_nested_conflicts<'a>(
     nested: &'a Value,
     answers: &'a [String],
 ) -> Result<Vec<Conflict<'a>>, AllocError>
-    ensures { IfOk result (λ v. all_conflicts v.items ≡ specs.nested_conflicts (map string_bytes answers.now) (view own.now) (view nested.now)) }
+    ensures { IfOk result
+        (λ v. all_conflicts v.items
+        ≡ specs.nested_conflicts (map string_bytes answers.now) (view own.now) (view nested.now)) }
 {
     let own_items = path_items(alloc, own)?;
     let nested_items = path_items(alloc, nested)?;

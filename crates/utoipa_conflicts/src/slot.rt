@@ -64,7 +64,8 @@ fn push_slot<'a>(
     slot: Slot<'a>,
     value: &'a Value,
 ) -> Result<(), AllocError>
-    ensures { OnOk result (all_filled slots.new.items ≡ all_filled slots.old.items ++ specs.one_slot (slot_of slot.entry) (view value.now)) }
+    ensures { OnOk result (all_filled slots.new.items
+        ≡ all_filled slots.old.items ++ specs.one_slot (slot_of slot.entry) (view value.now)) }
 {
     slots.push(Filled { slot, value })?;
     Ok(())
@@ -91,7 +92,8 @@ fn push_component_slots<'a>(
     kind: &'a str,
     member: &'a Value,
 ) -> Result<(), AllocError>
-    ensures { OnOk result (all_filled slots.new.items ≡ all_filled slots.old.items ++ specs.component_slots kind.now (view member.now)) }
+    ensures { OnOk result (all_filled slots.new.items
+        ≡ all_filled slots.old.items ++ specs.component_slots kind.now (view member.now)) }
 {
     if is_extension_name(kind) {
         return push_slot(slots, Slot::ComponentsExtension(kind), member);
@@ -107,7 +109,8 @@ fn push_components_slots<'a>(
     slots: &mut Vec<Filled<'a>>,
     components: &'a Map<String, Value>,
 ) -> Result<(), AllocError>
-    ensures { OnOk result (all_filled slots.new.items ≡ all_filled slots.old.items ++ each_member specs.component_slots (members_view components.now.entries)) }
+    ensures { OnOk result (all_filled slots.new.items
+        ≡ all_filled slots.old.items ++ each_member specs.component_slots (members_view components.now.entries)) }
 {
     for (kind, member) in components.iter() {
         push_component_slots(slots, kind.as_str(), member)?;
@@ -137,7 +140,8 @@ fn push_item_slots<'a>(
     name: &'a str,
     member: &'a Value,
 ) -> Result<(), AllocError>
-    ensures { OnOk result (all_filled slots.new.items ≡ all_filled slots.old.items ++ specs.item_slots path.now name.now (view member.now)) }
+    ensures { OnOk result (all_filled slots.new.items
+        ≡ all_filled slots.old.items ++ specs.item_slots path.now name.now (view member.now)) }
 {
     if is_method(name) {
         return push_slot(slots, Slot::Operation(path, name), member);
@@ -157,7 +161,8 @@ fn push_whole_item_slots<'a>(
     path: &'a str,
     item: &'a Map<String, Value>,
 ) -> Result<(), AllocError>
-    ensures { OnOk result (all_filled slots.new.items ≡ all_filled slots.old.items ++ each_member (specs.item_slots path.now) (members_view item.now.entries)) }
+    ensures { OnOk result (all_filled slots.new.items
+        ≡ all_filled slots.old.items ++ each_member (specs.item_slots path.now) (members_view item.now.entries)) }
 {
     for (name, member) in item.iter() {
         push_item_slots(slots, path, name.as_str(), member)?;
@@ -171,7 +176,8 @@ fn push_path_slots<'a>(
     path: &'a str,
     entry: &'a Value,
 ) -> Result<(), AllocError>
-    ensures { OnOk result (all_filled slots.new.items ≡ all_filled slots.old.items ++ specs.path_slots path.now (view entry.now)) }
+    ensures { OnOk result (all_filled slots.new.items
+        ≡ all_filled slots.old.items ++ specs.path_slots path.now (view entry.now)) }
 {
     if is_extension_name(path) {
         return push_slot(slots, Slot::PathsExtension(path), entry);
@@ -187,7 +193,8 @@ fn push_paths_slots<'a>(
     slots: &mut Vec<Filled<'a>>,
     paths: &'a Map<String, Value>,
 ) -> Result<(), AllocError>
-    ensures { OnOk result (all_filled slots.new.items ≡ all_filled slots.old.items ++ each_member specs.path_slots (members_view paths.now.entries)) }
+    ensures { OnOk result (all_filled slots.new.items
+        ≡ all_filled slots.old.items ++ each_member specs.path_slots (members_view paths.now.entries)) }
 {
     for (path, entry) in paths.iter() {
         push_path_slots(slots, path.as_str(), entry)?;
@@ -201,7 +208,8 @@ fn push_member_slots<'a>(
     name: &'a str,
     member: &'a Value,
 ) -> Result<(), AllocError>
-    ensures { OnOk result (all_filled slots.new.items ≡ all_filled slots.old.items ++ specs.member_slots name.now (view member.now)) }
+    ensures { OnOk result (all_filled slots.new.items
+        ≡ all_filled slots.old.items ++ specs.member_slots name.now (view member.now)) }
 {
     if is_joined(name) {
         return Ok(());
@@ -221,7 +229,8 @@ fn push_all_slots<'a>(
     slots: &mut Vec<Filled<'a>>,
     members: &'a Map<String, Value>,
 ) -> Result<(), AllocError>
-    ensures listed { OnOk result (all_filled slots.new.items ≡ all_filled slots.old.items ++ each_member specs.member_slots (members_view members.now.entries)) }
+    ensures listed { OnOk result (all_filled slots.new.items
+        ≡ all_filled slots.old.items ++ each_member specs.member_slots (members_view members.now.entries)) }
     ensures apart { OnOk result (AreApart (members_view members.now.entries)) }
 {
     for (name, member) in members.iter() {
@@ -235,7 +244,8 @@ fn push_document_slots<'a>(
     slots: &mut Vec<Filled<'a>>,
     document: &'a Value,
 ) -> Result<(), AllocError>
-    ensures listed { OnOk result (all_filled slots.new.items ≡ all_filled slots.old.items ++ specs.slots (view document.now)) }
+    ensures listed { OnOk result (all_filled slots.new.items
+        ≡ all_filled slots.old.items ++ specs.slots (view document.now)) }
     ensures apart { OnOk result (AreApart (members_at (view document.now))) }
 {
     match document {

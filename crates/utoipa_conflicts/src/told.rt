@@ -111,7 +111,8 @@ pub fn document_nested_conflicts<T: Tree>(
     nested: &T,
     answers: &[String],
 ) -> Result<Vec<DocumentConflict>, AllocError>
-    ensures { IfOk result (λ v. all_told v.items ≡ told_nested (map string_bytes answers.now) (T.doc own.now) (T.doc nested.now)) }
+    ensures { IfOk result
+        (λ v. all_told v.items ≡ told_nested (map string_bytes answers.now) (T.doc own.now) (T.doc nested.now)) }
 {
     let own = own.to_value(alloc)?;
     let nested = nested.to_value(alloc)?;
@@ -126,7 +127,9 @@ pub fn document_conflicts_behind<T: Tree>(
     base: &str,
     nested: &T,
 ) -> Result<Vec<DocumentConflict>, AllocError>
-    ensures { IfOk result (λ v. all_told v.items ≡ told_nested (behind base.now (write (T.doc nested.now))) (T.doc own.now) (T.doc nested.now)) }
+    ensures { IfOk result
+        (λ v. all_told v.items
+        ≡ told_nested (behind base.now (write (T.doc nested.now))) (T.doc own.now) (T.doc nested.now)) }
 {
     let tree = nested.to_value(alloc)?;
     let items = path_items(alloc, &tree)?;

@@ -34,7 +34,8 @@ use utoipa_conflicts::{document_conflicts, document_conflicts_behind, document_n
 pub fn conflicts(alloc: Global, documents: &[OpenApi]) -> Result<Vec<DocumentConflict>, AllocError>
     ensures exact { IfOk result (λ v. all_told v.items ≡ told (map openapi_doc documents.now)) }
     ensures lost { IfOk result (λ v. (d : Doc) → All IsUnambiguous (map openapi_doc documents.now)
-        → IsMerged (map openapi_doc documents.now) d → IsInKeyOrder d → TellWhatIsLost (map openapi_doc documents.now) d (all_told v.items)) }
+        → IsMerged (map openapi_doc documents.now) d → IsInKeyOrder d
+        → TellWhatIsLost (map openapi_doc documents.now) d (all_told v.items)) }
     ensures none { IfOk result (λ v. v.items ≡ [] → (d : Doc) → All IsUnambiguous (map openapi_doc documents.now)
         → IsMerged (map openapi_doc documents.now) d → IsInKeyOrder d → IsAllThere (map openapi_doc documents.now) d) }
 {
@@ -49,7 +50,9 @@ pub fn nested_conflicts(
     base: &str,
     other: &OpenApi,
 ) -> Result<Vec<DocumentConflict>, AllocError>
-    ensures { IfOk result (λ v. all_told v.items ≡ told_nested (behind base.now (write (openapi_doc other.now))) (openapi_doc own.now) (openapi_doc other.now)) }
+    ensures { IfOk result
+        (λ v. all_told v.items
+        ≡ told_nested (behind base.now (write (openapi_doc other.now))) (openapi_doc own.now) (openapi_doc other.now)) }
 {
     document_conflicts_behind(alloc, own, base, other)
 }
@@ -62,7 +65,9 @@ pub fn composed_conflicts(
     other: &OpenApi,
     answers: &[String],
 ) -> Result<Vec<DocumentConflict>, AllocError>
-    ensures { IfOk result (λ v. all_told v.items ≡ told_nested (map string_bytes answers.now) (openapi_doc own.now) (openapi_doc other.now)) }
+    ensures { IfOk result
+        (λ v. all_told v.items
+        ≡ told_nested (map string_bytes answers.now) (openapi_doc own.now) (openapi_doc other.now)) }
 {
     document_nested_conflicts(alloc, own, other, answers)
 }

@@ -32,7 +32,8 @@ fn put_drop(
     kept: &str,
     lines: &mut String,
 ) -> Result<(), AllocError>
-    ensures { OnOk result (string_bytes lines.new ≡ string_bytes lines.old ++ specs.drop_line dropped.now (outwards pointer.now.steps.items []) kept.now) }
+    ensures { OnOk result (string_bytes lines.new
+        ≡ string_bytes lines.old ++ specs.drop_line dropped.now (outwards pointer.now.steps.items []) kept.now) }
 {
     write!(
         lines,
@@ -46,7 +47,8 @@ fn put_conflict(
     conflict: &Conflict<'_>,
     lines: &mut String,
 ) -> Result<(), AllocError>
-    ensures { OnOk result (string_bytes lines.new ≡ string_bytes lines.old ++ specs.conflict_line (names_of sources.now) (conflict_of conflict.now)) }
+    ensures { OnOk result (string_bytes lines.new
+        ≡ string_bytes lines.old ++ specs.conflict_line (names_of sources.now) (conflict_of conflict.now)) }
 {
     let dropped = name_at(sources, conflict.dropped);
     let kept = name_at(sources, conflict.kept);
@@ -60,7 +62,9 @@ pub fn conflict_lines(
     sources: &[Source<'_>],
     trees: &[Value],
 ) -> Result<String, AllocError>
-    ensures { IfOk result (λ lines. string_bytes lines ≡ flat_map (specs.conflict_line (names_of sources.now)) (conflicts (trees_of trees.now))) }
+    ensures { IfOk result
+        (λ lines. string_bytes lines
+        ≡ flat_map (specs.conflict_line (names_of sources.now)) (conflicts (trees_of trees.now))) }
 {
     let mut lines = String::new(alloc);
     let found = tree_conflicts(alloc, trees)?;

@@ -8,7 +8,8 @@ use std::alloc::{AllocError, Global};
 
 /// Adds the line of a finding. Fails where memory runs out.
 fn put_line(name: &str, finding: &Finding<'_>, lines: &mut String) -> Result<(), AllocError>
-    ensures { OnOk result (string_bytes lines.new ≡ string_bytes lines.old ++ finding_line name.now (finding_of finding.now)) }
+    ensures { OnOk result (string_bytes lines.new
+        ≡ string_bytes lines.old ++ finding_line name.now (finding_of finding.now)) }
 {
     write!(lines, "{name}: {finding}\n")
 }

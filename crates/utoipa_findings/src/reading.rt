@@ -23,7 +23,8 @@ use utoipa_tables::Kind;
 
 /// The lines of all that does not fit in a tree. Fails where memory runs out.
 fn refusal_lines(alloc: Global, kind: Kind, name: &str, tree: &Value) -> Result<String, AllocError>
-    ensures { IfOk result (λ lines. string_bytes lines ≡ lines_text name.now (specs.refusals (kind_of kind) (view tree.now))) }
+    ensures { IfOk result
+        (λ lines. string_bytes lines ≡ lines_text name.now (specs.refusals (kind_of kind) (view tree.now))) }
 {
     let mut found = Vec::new(alloc);
     put_refusals(alloc, kind, tree, &mut found)?;
@@ -33,7 +34,8 @@ fn refusal_lines(alloc: Global, kind: Kind, name: &str, tree: &Value) -> Result<
 /// The lines that tell why a text is no document of a kind. Fails where memory runs out.
 fn why_refused(alloc: Global, kind: Kind, name: &str, text: &str) -> Result<String, AllocError>
     requires { IsUtf8 text.now }
-    ensures { IfOk result (λ lines. IsTold (specs.refusals (kind_of kind)) name.now text.now (sources.tree_of text.now) (string_bytes lines)) }
+    ensures { IfOk result
+        (λ lines. IsTold (specs.refusals (kind_of kind)) name.now text.now (sources.tree_of text.now) (string_bytes lines)) }
 {
     match tree_of_text(alloc, name, text) {
         Ok(tree) => refusal_lines(alloc, kind, name, &tree),

@@ -30,7 +30,8 @@ pub(crate) fn put_refusals<'a>(
     tree: &'a Value,
     found: &mut Vec<Finding<'a>>,
 ) -> Result<(), AllocError>
-    ensures { OnOk result (all_findings found.new.items ≡ all_findings found.old.items ++ specs.refusals (kind_of kind) (view tree.now)) }
+    ensures { OnOk result (all_findings found.new.items
+        ≡ all_findings found.old.items ++ specs.refusals (kind_of kind) (view tree.now)) }
 {
     for misfit in misfits(alloc, kind, tree)?.misfits {
         found.push(Finding {
@@ -48,7 +49,8 @@ fn put_doubts<'a>(
     tree: &'a Value,
     found: &mut Vec<Finding<'a>>,
 ) -> Result<(), AllocError>
-    ensures { OnOk result (all_findings found.new.items ≡ all_findings found.old.items ++ map specs.doubtful_at (doubts (kind_of kind) (view tree.now))) }
+    ensures { OnOk result (all_findings found.new.items
+        ≡ all_findings found.old.items ++ map specs.doubtful_at (doubts (kind_of kind) (view tree.now))) }
 {
     for misfit in doubts(alloc, kind, tree)? {
         found.push(Finding {
@@ -79,7 +81,8 @@ fn put_dropped<'a, T: Tree>(
     tree: &'a Value,
     found: &mut Vec<Finding<'a>>,
 ) -> Result<(), AllocError>
-    ensures { OnOk result (all_findings found.new.items ≡ all_findings found.old.items ++ map specs.lost_at (specs.dropped_where_read T.kind (view tree.now))) }
+    ensures { OnOk result (all_findings found.new.items
+        ≡ all_findings found.old.items ++ map specs.lost_at (specs.dropped_where_read T.kind (view tree.now))) }
 {
     for dropped in dropped_where_read::<T>(alloc, tree)? {
         found.push(Finding {
@@ -97,7 +100,8 @@ fn put_dangling<'a>(
     tree: &'a Value,
     found: &mut Vec<Finding<'a>>,
 ) -> Result<(), AllocError>
-    ensures { OnOk result (all_findings found.new.items ≡ all_findings found.old.items ++ flat_map specs.dangles_at (references (kind_of kind) (view tree.now))) }
+    ensures { OnOk result (all_findings found.new.items
+        ≡ all_findings found.old.items ++ flat_map specs.dangles_at (references (kind_of kind) (view tree.now))) }
 {
     for reference in references(alloc, kind, tree)? {
         if let State::Dangling = reference.state {
@@ -137,7 +141,8 @@ fn tree_lines<T: Tree>(
     tree: &Value,
 ) -> Result<String, AllocError>
     requires { kind_of kind ≡ T.kind }
-    ensures { IfOk result (λ lines. string_bytes lines ≡ lines_text name.now (specs.findings (kind_of kind) (view tree.now))) }
+    ensures { IfOk result
+        (λ lines. string_bytes lines ≡ lines_text name.now (specs.findings (kind_of kind) (view tree.now))) }
 {
     let found = findings::<T>(alloc, kind, tree)?;
     lines_of(alloc, name, &found)
@@ -147,7 +152,8 @@ fn tree_lines<T: Tree>(
 /// type. Fails where memory runs out.
 pub fn check<T: Tree>(alloc: Global, kind: Kind, source: Source<'_>) -> Result<String, AllocError>
     requires { kind_of kind ≡ T.kind }
-    ensures { IfOk result (λ lines. IsChecked (kind_of kind) source.entry.name.now source.entry.bytes.now (string_bytes lines)) }
+    ensures { IfOk result
+        (λ lines. IsChecked (kind_of kind) source.entry.name.now source.entry.bytes.now (string_bytes lines)) }
 {
     match tree_of(alloc, source) {
         Ok(tree) => tree_lines::<T>(alloc, kind, source.name, &tree),

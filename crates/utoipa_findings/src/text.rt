@@ -64,7 +64,8 @@ fn no_json_line(
     line: usize,
     column: usize,
 ) -> Result<String, AllocError>
-    ensures { IfOk result (λ told. string_bytes told ≡ specs.text_line name.now line column (specs.no_json name.now text.now)) }
+    ensures { IfOk result
+        (λ told. string_bytes told ≡ specs.text_line name.now line column (specs.no_json name.now text.now)) }
 {
     if is_like_yaml(text.as_bytes()) {
         return format!(in alloc;
@@ -77,7 +78,8 @@ fn no_json_line(
 /// The line that tells of bytes that they are no UTF-8 from a place on. Fails where memory runs out.
 fn no_utf8_line(alloc: Global, source: Source<'_>, at: usize) -> Result<String, AllocError>
     requires { ¬ IsUtf8 source.bytes.now }
-    ensures { IfOk result (λ told. specs.IsTreelessLine source.entry.name.now source.entry.bytes.now (string_bytes told)) }
+    ensures { IfOk result
+        (λ told. specs.IsTreelessLine source.entry.name.now source.entry.bytes.now (string_bytes told)) }
 {
     let (line, column) = position(source.bytes, at);
     let name = source.name;

@@ -24,7 +24,8 @@ fn push_names<'a>(
     names: &mut Vec<&'a str>,
     members: &'a Map<String, Value>,
 ) -> Result<(), AllocError>
-    ensures { OnOk result (texts_of names.new.items ≡ texts_of names.old.items ++ each_member specs.path_name (members_view members.now.entries)) }
+    ensures { OnOk result (texts_of names.new.items
+        ≡ texts_of names.old.items ++ each_member specs.path_name (members_view members.now.entries)) }
 {
     for (name, _) in members.iter() {
         if !is_extension_name(name) {
@@ -50,7 +51,8 @@ fn push_all_names<'a>(
     names: &mut Vec<&'a str>,
     members: &'a Map<String, Value>,
 ) -> Result<(), AllocError>
-    ensures { OnOk result (texts_of names.new.items ≡ texts_of names.old.items ++ each_member specs.any_name (members_view members.now.entries)) }
+    ensures { OnOk result (texts_of names.new.items
+        ≡ texts_of names.old.items ++ each_member specs.any_name (members_view members.now.entries)) }
 {
     for (name, _) in members.iter() {
         names.push(name.as_str())?;
@@ -112,8 +114,10 @@ fn put_name<'a>(
     used: &BTreeSet<String>,
     found: &mut NamesByUse<'a>,
 ) -> Result<(), AllocError>
-    ensures used { OnOk result (texts_of found.new.used.items ≡ texts_of found.old.used.items ++ specs.if_so (contains_text used.now (escaped name.entry.now)) name.entry.now) }
-    ensures unused { OnOk result (texts_of found.new.unused.items ≡ texts_of found.old.unused.items ++ specs.if_so (not (contains_text used.now (escaped name.entry.now))) name.entry.now) }
+    ensures used { OnOk result (texts_of found.new.used.items
+        ≡ texts_of found.old.used.items ++ specs.if_so (contains_text used.now (escaped name.entry.now)) name.entry.now) }
+    ensures unused { OnOk result (texts_of found.new.unused.items
+        ≡ texts_of found.old.unused.items ++ specs.if_so (not (contains_text used.now (escaped name.entry.now))) name.entry.now) }
 {
     if is_among(alloc, name, used)? {
         found.used.push(name)?;
@@ -129,8 +133,10 @@ fn by_use<'a>(
     names: &[&'a str],
     used: &BTreeSet<String>,
 ) -> Result<NamesByUse<'a>, AllocError>
-    ensures used { IfOk result (λ v. texts_of v.used.items ≡ flat_map (λ name. specs.if_so (contains_text used.now (escaped name)) name) (texts_of names.now)) }
-    ensures unused { IfOk result (λ v. texts_of v.unused.items ≡ flat_map (λ name. specs.if_so (not (contains_text used.now (escaped name))) name) (texts_of names.now)) }
+    ensures used { IfOk result (λ v. texts_of v.used.items ≡ flat_map
+        (λ name. specs.if_so (contains_text used.now (escaped name)) name) (texts_of names.now)) }
+    ensures unused { IfOk result (λ v. texts_of v.unused.items
+        ≡ flat_map (λ name. specs.if_so (not (contains_text used.now (escaped name))) name) (texts_of names.now)) }
 {
     let mut found = NamesByUse {
         used: Vec::new(alloc),
@@ -149,7 +155,8 @@ pub fn schemas<'a>(
     document: &'a Value,
 ) -> Result<NamesByUse<'a>, AllocError>
     ensures used { IfOk result (λ v. texts_of v.used.items ≡ specs.used_schemas (kind_of kind) (view document.now)) }
-    ensures unused { IfOk result (λ v. texts_of v.unused.items ≡ specs.unused_schemas (kind_of kind) (view document.now)) }
+    ensures unused { IfOk result (λ v. texts_of v.unused.items
+        ≡ specs.unused_schemas (kind_of kind) (view document.now)) }
 {
     let names = schema_names(alloc, document)?;
     let used = used_tokens(alloc, kind, document)?;

@@ -21,7 +21,8 @@ fn text_at<'a>(name: &str, tree: &'a Value) -> &'a str
 
 /// Adds the line of an operation. Fails where memory runs out.
 fn put_line(operation: Operation<'_>, lines: &mut String) -> Result<(), AllocError>
-    ensures { OnOk result (string_bytes lines.new ≡ string_bytes lines.old ++ specs.operation_line (operation_of operation.entry)) }
+    ensures { OnOk result (string_bytes lines.new
+        ≡ string_bytes lines.old ++ specs.operation_line (operation_of operation.entry)) }
 {
     let method = OneLine(operation.method);
     let path = OneLine(operation.path);

@@ -46,7 +46,8 @@ fn push_operation<'a>(
     path: &'a str,
     value: &'a Value,
 ) -> Result<(), AllocError>
-    ensures { OnOk result (all_operations found.new.items ≡ all_operations found.old.items ++ specs.operation method.entry.now path.entry.now (view value.now)) }
+    ensures { OnOk result (all_operations found.new.items
+        ≡ all_operations found.old.items ++ specs.operation method.entry.now path.entry.now (view value.now)) }
 {
     found.push(Operation {
         method,
@@ -78,7 +79,8 @@ fn push_member<'a>(
     name: &'a str,
     member: &'a Value,
 ) -> Result<(), AllocError>
-    ensures { OnOk result (all_operations found.new.items ≡ all_operations found.old.items ++ specs.member_operations path.now name.now (view member.now)) }
+    ensures { OnOk result (all_operations found.new.items
+        ≡ all_operations found.old.items ++ specs.member_operations path.now name.now (view member.now)) }
 {
     if let Some(method) = method_of(name) {
         return push_operation(found, method, path, member);
@@ -112,7 +114,8 @@ fn push_entry<'a>(
     path: &'a str,
     entry: &'a Value,
 ) -> Result<(), AllocError>
-    ensures { OnOk result (all_operations found.new.items ≡ all_operations found.old.items ++ specs.entry_operations path.now (view entry.now)) }
+    ensures { OnOk result (all_operations found.new.items
+        ≡ all_operations found.old.items ++ specs.entry_operations path.now (view entry.now)) }
 {
     if is_extension_name(path) {
         return Ok(());

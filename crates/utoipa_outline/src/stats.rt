@@ -72,7 +72,8 @@ struct Counts {
 
 /// Adds the lines of the paths, the webhooks and the operations. Fails where memory runs out.
 fn put_paths(counts: Counts, lines: &mut String) -> Result<(), AllocError>
-    ensures { OnOk result (string_bytes lines.new ≡ string_bytes lines.old ++ path_lines counts.paths counts.webhooks counts.operations) }
+    ensures { OnOk result (string_bytes lines.new
+        ≡ string_bytes lines.old ++ path_lines counts.paths counts.webhooks counts.operations) }
 {
     let paths = counts.paths;
     let webhooks = counts.webhooks;
@@ -85,7 +86,8 @@ fn put_paths(counts: Counts, lines: &mut String) -> Result<(), AllocError>
 
 /// Adds the lines of the schemas. Fails where memory runs out.
 fn put_schemas(counts: Counts, lines: &mut String) -> Result<(), AllocError>
-    ensures { OnOk result (string_bytes lines.new ≡ string_bytes lines.old ++ schema_lines counts.schemas counts.used counts.unused) }
+    ensures { OnOk result (string_bytes lines.new
+        ≡ string_bytes lines.old ++ schema_lines counts.schemas counts.used counts.unused) }
 {
     let schemas = counts.schemas;
     let used = counts.used;
@@ -98,7 +100,8 @@ fn put_schemas(counts: Counts, lines: &mut String) -> Result<(), AllocError>
 
 /// Adds the lines of the readings, the depth and the size. Fails where memory runs out.
 fn put_tree(counts: Counts, lines: &mut String) -> Result<(), AllocError>
-    ensures { OnOk result (string_bytes lines.new ≡ string_bytes lines.old ++ tree_lines counts.readings counts.depth counts.size) }
+    ensures { OnOk result (string_bytes lines.new
+        ≡ string_bytes lines.old ++ tree_lines counts.readings counts.depth counts.size) }
 {
     let readings = counts.readings;
     let depth = counts.depth;

@@ -39,7 +39,8 @@ fn schema_token(pointer: &str) -> Option<&str>
 
 /// Notes a schema by its name, as a pointer has it. Fails where memory runs out.
 fn note(alloc: Global, token: &str, used: &mut BTreeSet<String>) -> Result<(), AllocError>
-    ensures { OnOk result ((t : List ℕ) → contains_text used.new t ≡ (bytes_eq token.now t || contains_text used.old t)) }
+    ensures { OnOk result ((t : List ℕ) → contains_text used.new t
+        ≡ (bytes_eq token.now t || contains_text used.old t)) }
 {
     let name = String::from_str(alloc, token)?;
     drop(used.insert(name)?);
@@ -48,7 +49,8 @@ fn note(alloc: Global, token: &str, used: &mut BTreeSet<String>) -> Result<(), A
 
 /// Notes the schema that a JSON Pointer leads to or into. Fails where memory runs out.
 fn note_pointer(alloc: Global, pointer: &str, used: &mut BTreeSet<String>) -> Result<(), AllocError>
-    ensures { OnOk result ((t : List ℕ) → contains_text used.new t ≡ (specs.is_token t (specs.schema_token pointer.now) || contains_text used.old t)) }
+    ensures { OnOk result ((t : List ℕ) → contains_text used.new t
+        ≡ (specs.is_token t (specs.schema_token pointer.now) || contains_text used.old t)) }
 {
     match schema_token(pointer) {
         Some(token) => note(alloc, token, used),
@@ -62,7 +64,8 @@ fn note_fragment(
     fragment: &str,
     used: &mut BTreeSet<String>,
 ) -> Result<(), AllocError>
-    ensures { OnOk result ((t : List ℕ) → contains_text used.new t ≡ (specs.is_token t (specs.fragment_token (decoded fragment.now)) || contains_text used.old t)) }
+    ensures { OnOk result ((t : List ℕ) → contains_text used.new t
+        ≡ (specs.is_token t (specs.fragment_token (decoded fragment.now)) || contains_text used.old t)) }
 {
     match percent_decode(fragment.as_bytes()).decode_utf8(alloc) {
         Ok(pointer) => note_pointer(alloc, &pointer, used),
@@ -73,7 +76,8 @@ fn note_fragment(
 
 /// Notes the schema that a reference leads to or into. Fails where memory runs out.
 fn note_reference(alloc: Global, text: &str, used: &mut BTreeSet<String>) -> Result<(), AllocError>
-    ensures { OnOk result ((t : List ℕ) → contains_text used.new t ≡ (specs.is_token t (specs.reference_token text.now) || contains_text used.old t)) }
+    ensures { OnOk result ((t : List ℕ) → contains_text used.new t
+        ≡ (specs.is_token t (specs.reference_token text.now) || contains_text used.old t)) }
 {
     match text.strip_prefix('#') {
         Some(fragment) => note_fragment(alloc, fragment, used),
@@ -83,7 +87,8 @@ fn note_reference(alloc: Global, text: &str, used: &mut BTreeSet<String>) -> Res
 
 /// Notes the schema that a text of a discriminator's mapping names, or leads to or into. Fails where memory runs out.
 fn note_mapping(alloc: Global, text: &str, used: &mut BTreeSet<String>) -> Result<(), AllocError>
-    ensures { OnOk result ((t : List ℕ) → contains_text used.new t ≡ (specs.is_token t (specs.mapping_token text.now) || contains_text used.old t)) }
+    ensures { OnOk result ((t : List ℕ) → contains_text used.new t
+        ≡ (specs.is_token t (specs.mapping_token text.now) || contains_text used.old t)) }
 {
     match text.strip_prefix('#') {
         Some(fragment) => note_fragment(alloc, fragment, used),
@@ -98,7 +103,8 @@ fn note_mention(
     text: &str,
     used: &mut BTreeSet<String>,
 ) -> Result<(), AllocError>
-    ensures { OnOk result ((t : List ℕ) → contains_text used.new t ≡ (specs.is_token t (specs.mention_token (way_of way) text.now) || contains_text used.old t)) }
+    ensures { OnOk result ((t : List ℕ) → contains_text used.new t
+        ≡ (specs.is_token t (specs.mention_token (way_of way) text.now) || contains_text used.old t)) }
 {
     match way {
         Way::Reference => note_reference(alloc, text, used),
@@ -113,7 +119,8 @@ pub(crate) fn used_tokens(
     kind: Kind,
     tree: &Value,
 ) -> Result<BTreeSet<String>, AllocError>
-    ensures { IfOk result (λ used. (t : List ℕ) → contains_text used t ≡ specs.is_mentioned (references (kind_of kind) (view tree.now)) t) }
+    ensures { IfOk result (λ used. (t : List ℕ) → contains_text used t
+        ≡ specs.is_mentioned (references (kind_of kind) (view tree.now)) t) }
 {
     let mut used = BTreeSet::new(alloc);
     for reference in references(alloc, kind, tree)? {
