@@ -15,6 +15,7 @@
 //! | `compose TYPE` | a JSON text: schemas and references in a list | what the type is composed to over them, or the refusal |
 //! | `schema TYPE` | anything | the schema of the type, or the refusal |
 //! | `name TYPE` | anything | the name of the type's schema |
+//! | `component` | a reference's location | the map and the name of the component that it leads to, or `none` |
 //! | `schemas TYPE` | anything | the names of the schemas that the type's schema refers to, behind `Given` |
 //!
 //! A value that prints another text than that of the tree that it is written as is told so by `read` and `print`, as
@@ -29,6 +30,7 @@ mod types;
 
 use std::alloc::{AllocError, Global};
 use std::io;
+use utoipa_base::Ref;
 use utoipa_case_kit::Call;
 
 fn main(rt: HostRuntime) -> io::Result<()> {
@@ -52,8 +54,18 @@ fn answer_to_call(alloc: Global, call: &Call<'_>) -> Result<String, AllocError> 
     match call.name {
         "print" => extensions::printed_with_extensions(alloc, call.subject(), call.given),
         "same" => same::are_same(alloc, call.subject(), call.given),
+        "component" => component_of(alloc, call.given),
         "compose" | "schema" | "name" | "schemas" => compositions::answer_to_call(alloc, call),
         _ => answer_to_question(alloc, call),
+    }
+}
+
+// The map and the name of the component that a reference to the location leads to.
+fn component_of(alloc: Global, location: &str) -> Result<String, AllocError> {
+    let reference = Ref::new(alloc, String::from_str(alloc, location)?);
+    match reference.component() {
+        Some(key) => format!(in alloc; "{} {}", key.map.as_text(), key.name),
+        None => String::from_str(alloc, "none"),
     }
 }
 

@@ -27,6 +27,8 @@
 //! | `openapi-of TYPE` | nothing | what the document of the type is written as, with its tags |
 //! | `responses-from TYPE` | a JSON text | what the responses are written as, once those of the type were put |
 //! | `component-from TYPE` | a JSON text | what the components are written as, once the schema or the response of the type was put |
+//! | `operations` | a JSON text, a document | the operations of its paths: of each the method, the path and the id, with `; ` behind it; `none` where there is none |
+//! | `operation-by-id ID` | a JSON text, a document | the operation of its paths that has the id, in the same way, or `none` |
 //! | `callbacks` | a number | `true`, where an operation in so many callbacks, one in the other, is kept |
 //! | `run`, `run WORD`, `run WORD\|WORD..` | the text of standard input | the exit status of the command, and what it wrote |
 //! | `run-hex ..` | the same in hexadecimal, two digits a byte | the same |
@@ -43,6 +45,7 @@ mod brackets;
 mod documents;
 mod extended;
 mod extensions;
+mod listed;
 mod made;
 mod merged;
 mod nested;
@@ -79,6 +82,8 @@ fn answer_to_call(alloc: Global, call: &Call<'_>) -> Result<String, AllocError> 
         "merge-pairs" => documents::merged_in_pairs(alloc, call.subject(), call.given),
         "composed" => documents::nested_by_rule(alloc, call.subject(), call.given),
         "add" => merged::with_operation(alloc, call.subject(), call.given),
+        "operations" => listed::operations_of(alloc, call.given),
+        "operation-by-id" => listed::operation_of_id(alloc, call.subject(), call.given),
         "callbacks" => nested::callbacks_kept(alloc, call.given),
         "run" | "run-hex" | "steps" | "calls" | "faults" => runs::answer_to_call(alloc, call),
         _ => answer_changed_again(alloc, call),

@@ -23,12 +23,14 @@ fn serve_text(alloc: Global, text: &[u8], answer: &mut Vec<u8>, told: &mut Vec<u
     requires { 26 ≤ vec_capacity told.old - vec_len told.old }
 
     // Status 0 comes with the answer.
-    ensures answered { result ≡ 0 → (line : List ℕ) × IsAnswer server text.now line × (answer.new.items ≡ answer.old.items ++ line) }
+    ensures answered { result ≡ 0 → (line : List ℕ) × IsAnswer server text.now line
+        × (answer.new.items ≡ answer.old.items ++ line) }
 
     // The line names the reason.
     ensures told_text { told.new.items ≡ told.old.items ++ refusal_line Refusal.Text → HasNoTree text.now }
     ensures told_fraction { told.new.items ≡ told.old.items ++ refusal_line Refusal.Fraction → HasFraction text.now }
-    ensures told_missing { told.new.items ≡ told.old.items ++ refusal_line Refusal.Missing → HasNoDocument server text.now }
+    ensures told_missing { told.new.items ≡ told.old.items ++ refusal_line Refusal.Missing
+        → HasNoDocument server text.now }
 
     // The reason names the line, where memory lasts.
     ensures no_tree { HasNoTree text.now → (result ≡ 1)

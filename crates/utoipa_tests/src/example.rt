@@ -1,6 +1,7 @@
 //! Examples by their builder.
 use crate::shared::{extension, is_written, is_written_first, text};
 use serde_json::Value;
+use utoipa_base::RefOr;
 use utoipa_leaf::example::{Example, ExampleBuilder};
 
 // It is written with what was set alone.
@@ -25,5 +26,5 @@ fn each_setter_of_an_example_sets_its_field(rt: HostRuntime) {
     is_written_first(&rt, &example, all);
     let bare = ExampleBuilder::from(example).value(None).extensions(None);
     let left = "{\"description\":\"d\",\"externalValue\":\"e\",\"summary\":\"s\"}";
-    is_written(&rt, Example::from(bare), left);
+    is_written(&rt, RefOr::from(Example::from(bare)), left);
 }

@@ -67,6 +67,8 @@ fn builders_go_on_from_what_they_begin_with(rt: HostRuntime) {
     let license = License::from(license.identifier(Some(text(&rt, "0"))));
     is_written(&rt, license, "{\"identifier\":\"0\",\"name\":\"MIT\"}");
     is_written(&rt, Contact::new(), "{}");
+    is_written(&rt, Contact::default(), "{}");
+    is_written(&rt, ContactBuilder::default().build(), "{}");
     let contact = ContactBuilder::from(Contact::new()).email(Some(text(&rt, "e")));
     is_written(&rt, Contact::from(contact), "{\"email\":\"e\"}");
     is_written(&rt, ContactBuilder::new().build(), "{}");

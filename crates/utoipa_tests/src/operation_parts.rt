@@ -237,6 +237,8 @@ fn a_parameter_is_written_as_it_was_built(rt: HostRuntime) {
     let given = given.expect(&rt, "memory for a list");
     let builder = builder.contents_from_iter(given.into_iter());
     let parameter = builder.expect(&rt, "memory for contents").build();
+    let told = parameter.example().and_then(|tree| tree.as_str());
+    is_text(&rt, told.unwrap_or("no example"), "e");
     let expected =
         r##"{"allowReserved":false,"content":{"a":{"$ref":"#/a"},"b":{"$ref":"#/b"}},"deprecated":true,"description":"d","example":"e","explode":true,"in":"cookie","name":"n","required":true,"schema":{"type":"string"},"style":"cookie","x-a":1}"##;
     is_written(&rt, parameter, expected);

@@ -6,7 +6,7 @@ use utoipa_base::Ref;
 use utoipa_leaf::path::HttpMethod;
 use utoipa_leaf::server::Server;
 use utoipa_operation_parts::Parameter;
-use utoipa_path::methods::{operation_of, take_operations};
+use utoipa_path::methods::take_operations;
 use utoipa_path::{Operation, PathItem, PathItemBuilder};
 
 // The operation of that name.
@@ -69,7 +69,7 @@ fn every_method(rt: &(impl Abort + AllocGlobal)) -> PathItem {
 
 // The operation of the method has that name.
 fn stands_at(rt: &impl Abort, item: &PathItem, method: HttpMethod, name: &str) {
-    match operation_of(item, method) {
+    match item.operation(method) {
         Some(operation) => match &operation.operation_id {
             Some(found) => is_text(rt, found.as_str(), name),
             None => is_text(rt, "no name", name),

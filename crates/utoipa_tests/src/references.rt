@@ -1,8 +1,8 @@
 //! References: from names, by the builder, and in the place of a value.
-use crate::shared::{is_written, is_written_first, text};
+use crate::shared::{is_flag, is_text, is_written, is_written_first, text};
 use serde_json::Value;
 use std::process::Abort;
-use utoipa_base::{Ref, RefBuilder, RefOr};
+use utoipa_base::{ReadFault, Ref, RefBuilder, RefOr};
 
 // What stands where a value could.
 fn place(reference: Ref) -> RefOr<Value> {
@@ -25,6 +25,18 @@ fn references_are_made_and_stand_in_the_place_of_a_value(rt: HostRuntime) {
     let builder = RefBuilder::new(rt.alloc()).ref_location(text(&rt, "#/a"));
     let place: RefOr<Value> = RefOr::from(builder);
     is_written(&rt, place, "{\"$ref\":\"#/a\"}");
+}
+
+// By its type and by what it says.
+#[test]
+fn what_the_parser_refuses_is_no_text(rt: HostRuntime) {
+    let refusal = Value::from_str(rt.alloc(), "[1,").expect_err(&rt, "a refusal");
+    let fault = ReadFault::from(refusal);
+    is_flag(&rt, fault == ReadFault::Text, true);
+    let copy = fault;
+    is_flag(&rt, copy == ReadFault::Missing("openapi"), false);
+    let told = format!(in rt.alloc(); "{fault}").expect(&rt, "what is told");
+    is_text(&rt, told.as_str(), "no JSON text");
 }
 
 // A builder with a location.

@@ -64,6 +64,13 @@ fn is_http(rt: &(impl Abort + AllocGlobal), scheme: HttpAuthScheme, word: &str) 
 fn each_http_scheme_is_written_with_its_word(rt: HostRuntime) {
     assert_eq!(rt; HttpAuthScheme::default(), HttpAuthScheme::Basic);
     assert_eq!(rt; HttpAuthScheme::ScramSha256.as_text(), "scram-sha-256");
+    let shown = format!(in rt.alloc(); "{}", HttpAuthScheme::OAuth).expect(
+        &rt,
+        "memory for a word",
+    );
+    assert_eq!(rt; shown.as_str(), "oauth");
+    is_written(&rt, Http::default(), r#"{"scheme":"basic"}"#);
+    is_written(&rt, HttpBuilder::default().build(), r#"{"scheme":"basic"}"#);
     for (scheme, word) in [
         (HttpAuthScheme::Basic, "basic"),
         (HttpAuthScheme::Bearer, "bearer"),
@@ -124,6 +131,12 @@ fn a_requirement_replaces_the_scopes_of_a_name(rt: HostRuntime) {
     let requirement = SecurityRequirement::new(rt.alloc(), text(&rt, "a"), scopes);
     let requirement = requirement.expect(&rt, "a requirement");
     is_written_first(&rt, &requirement, r#"{"a":["s"]}"#);
+    let listed = requirement
+        .as_map()
+        .get("a")
+        .expect(&rt, "the scopes of a name");
+    assert_eq!(rt; listed.len(), 1);
+    assert!(rt; requirement != SecurityRequirement::empty(rt.alloc()));
     let none: Vec<String> = Vec::new(rt.alloc());
     let later = requirement.add(rt.alloc(), text(&rt, "a"), none.into_iter());
     is_written(&rt, later.expect(&rt, "a later requirement"), r#"{"a":[]}"#);

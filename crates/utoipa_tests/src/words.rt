@@ -2,13 +2,20 @@
 use crate::shared::{is_flag, is_number, is_text, is_written};
 use serde_json::Value;
 use std::collections::HashSet;
+use std::fmt::Display;
 use std::process::Abort;
-use utoipa_base::{Deprecated, Required, Tree};
+use utoipa_base::{Deprecated, Required, Tree, Word};
 use utoipa_leaf::path::{HttpMethod, ParameterIn, ParameterStyle};
 use utoipa_leaf::version::OpenApiVersion;
 
-// The text is read as the value, and the value is written as the text.
-fn stands_for<T: Tree + PartialEq>(rt: &(impl Abort + AllocGlobal), word: &str, value: T) {
+// The text is read as the value, and the value is written as the text and shown as it.
+fn stands_for<T: Tree + PartialEq + Display>(
+    rt: &(impl Abort + AllocGlobal),
+    word: &str,
+    value: T,
+) {
+    let shown = format!(in rt.alloc(); "{value}").expect(rt, "memory for a word");
+    is_text(rt, shown.as_str(), word);
     let tree = Value::try_from_str(rt.alloc(), word).expect(rt, "memory for a text");
     let read = T::from_value(rt.alloc(), &tree).expect(rt, "a word");
     is_flag(rt, read == value, true);
@@ -68,6 +75,24 @@ fn each_place_each_version_and_each_flag_is_written_as_it_is(rt: HostRuntime) {
     is_written(&rt, Required::True, "true");
     is_written(&rt, Required::False, "false");
     is_written(&rt, Required::default(), "false");
+}
+
+// Each once, in the order in which they are listed.
+#[test]
+fn all_methods_are_there(rt: HostRuntime) {
+    let mut shown = String::new(rt.alloc());
+    for method in HttpMethod::ALL {
+        shown
+            .push_str(method.as_text())
+            .expect(&rt, "memory for a word");
+        shown.push(' ').expect(&rt, "memory for a blank");
+    }
+    is_text(
+        &rt,
+        shown.as_str(),
+        "get post put delete options head patch trace ",
+    );
+    is_text(&rt, OpenApiVersion::Version32.as_text(), "3.2.0");
 }
 
 // Whether the method was not in the set, in which it is then.

@@ -7,6 +7,8 @@ use utoipa_schema_parts::xml::{Xml, XmlBuilder, equal_as_documents};
 #[test]
 fn each_setter_of_an_xml_sets_its_field(rt: HostRuntime) {
     is_written(&rt, Xml::new(), "{}");
+    is_written(&rt, Xml::default(), "{}");
+    is_written(&rt, XmlBuilder::default().build(), "{}");
     let xml = XmlBuilder::new()
         .name(Some(text(&rt, "animal")))
         .node_type(Some(text(&rt, "element")))
