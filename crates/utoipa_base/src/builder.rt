@@ -47,7 +47,8 @@ impl TreeBuilder {
     // Puts a whole tree into the array or object that was begun last. Fails where memory runs out, and where no value may stand
     // there.
     fn place(&mut self, value: Value) -> Result<(), AllocError>
-        ensures { OnOk result (placed (view value) (state self.old).frames (state self.old).whole ≡ Some (state self.new)) }
+        ensures { OnOk result (placed (view value) (state self.old).frames (state self.old).whole
+            ≡ Some (state self.new)) }
     {
         match self.open.pop() {
             None => {

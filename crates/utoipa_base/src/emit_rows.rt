@@ -44,7 +44,8 @@ pub fn emit_optional<'a, T: Emit, S: JsonSink>(
     value: &Option<T>,
     pending: PendingExtensions<'a>,
 ) -> Result<PendingExtensions<'a>, AllocError>
-    ensures { IfOk result (λ left. SentAmong S.adds (row_member (row name.now optional T.kind) (option_of T.doc value.now))
+    ensures { IfOk result (λ left. SentAmong S.adds
+        (row_member (row name.now optional T.kind) (option_of T.doc value.now))
         (pending_view pending.entry) (pending_view left) out.old out.new) }
 {
     match value {
@@ -65,7 +66,8 @@ pub fn emit_or_null<'a, T: Emit, S: JsonSink>(
     value: &Option<T>,
     pending: PendingExtensions<'a>,
 ) -> Result<PendingExtensions<'a>, AllocError>
-    ensures { IfOk result (λ left. SentAmong S.adds (row_member (row name.now or_null T.kind) (option_of T.doc value.now))
+    ensures { IfOk result (λ left. SentAmong S.adds
+        (row_member (row name.now or_null T.kind) (option_of T.doc value.now))
         (pending_view pending.entry) (pending_view left) out.old out.new) }
 {
     let later = pending.emit_key(out, name)?;
@@ -245,7 +247,8 @@ pub fn emit_table<R: EmitRows, S: JsonSink>(
     extensions: &Option<Extensions>,
 ) -> Result<(), AllocError>
     requires { length names.now ≡ R.count }
-    ensures { (d : Doc) → IsObjectBy d (R.docs values.now) (R.rows (texts names.now)) (option_map extensions_view extensions.now)
+    ensures { (d : Doc)
+        → IsObjectBy d (R.docs values.now) (R.rows (texts names.now)) (option_map extensions_view extensions.now)
         → OnOk result (S.adds out.old (events (write d)) out.new) }
 {
     out.begin_object()?;

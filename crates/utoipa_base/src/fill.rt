@@ -45,7 +45,8 @@ pub fn put_each<T: Drop, I: Iterator<Item = (String, T)> + Drop>(
 ) -> Result<(), AllocError>
     requires can { I.can_next pairs }
     requires ends { IsFinite (I.remaining pairs) }
-    ensures { OnOk result ((given : Pairs T) × Drains I.next_gives pairs given × (map.new.entries ≡ put_each given map.old.entries)) }
+    ensures { OnOk result ((given : Pairs T) × Drains I.next_gives pairs given
+        × (map.new.entries ≡ put_each given map.old.entries)) }
 {
     for (name, value) in pairs {
         drop(map.insert(name, value)?);

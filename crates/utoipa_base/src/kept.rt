@@ -65,7 +65,8 @@ pub fn read_table_beside<R: RowFields, K: Drop>(
     requires { length names.now ≡ R.count }
     ensures { (n : ObjectType) (order : List Bool) (others : List Row) (docs : K → Docs) (start : ℕ)
         → rows_woven order (R.rows (texts names.now)) others ≡ table n → has_extensions n ≡ true
-        → Reads {A = Docs} (part others (view tree.now)) list_doc (Ok (docs kept)) start readings.old (rows_values others (view tree.now))
+        → Reads {A = Docs} (part others (view tree.now)) list_doc (Ok (docs kept)) start readings.old
+        (rows_values others (view tree.now))
         → Reads (read (named n) (view tree.now))
         (λ all. table_doc n (docs_woven order (R.docs all.0) (docs all.2)) (option_map extensions_view all.1)) result
         start readings.new (values (view tree.now)) }

@@ -17,7 +17,8 @@ use serde_json::Value;
 
 /// A well-formed value reads back from its own tree as its normal form. It need not be plain for its tree to read so.
 pub fn reads_back<T: Tree>(value: &T)
-    ensures well_formed { IsWellFormed (T.doc value.now) → ReadsAs T.kind (write (T.doc value.now)) (normal_form (T.doc value.now)) }
+    ensures well_formed { IsWellFormed (T.doc value.now)
+        → ReadsAs T.kind (write (T.doc value.now)) (normal_form (T.doc value.now)) }
     ensures with_fractions { IsUnambiguous (T.doc value.now)
         → read T.kind (write (T.doc value.now)) ≡ Some (normal_form (T.doc value.now)) }
 {}
@@ -35,7 +36,8 @@ pub fn normal_form_twice<T: Tree>(value: &T)
 /// Two well-formed values that are written as one tree have one normal form.
 pub fn one_normal_form<T: Tree>(left: &T, right: &T)
     ensures { IsUnambiguous (T.doc left.now) → IsUnambiguous (T.doc right.now)
-        → write (T.doc left.now) ≡ write (T.doc right.now) → normal_form (T.doc left.now) ≡ normal_form (T.doc right.now) }
+        → write (T.doc left.now) ≡ write (T.doc right.now)
+        → normal_form (T.doc left.now) ≡ normal_form (T.doc right.now) }
 {}
 
 /// What is read from a plain tree is plain, and is written as a plain tree.
@@ -46,5 +48,6 @@ pub fn stays_plain<T: Tree>(tree: &Value)
 
 /// The members of an object under distinct names have together fewer values than the object.
 pub fn members_have_fewer_values(tree: &Value)
-    ensures { (names : List (List ℕ)) → are_distinct names ≡ true → names_values names (view tree.now) < values (view tree.now) }
+    ensures { (names : List (List ℕ)) → are_distinct names ≡ true
+        → names_values names (view tree.now) < values (view tree.now) }
 {}

@@ -37,13 +37,15 @@ pub trait OpenField: RowField {
         depth: usize,
         readings: &mut Readings,
     ) -> Result<Self, Unread>
-        ensures read { IfOk result (λ v. (name : List ℕ) → FromTokens (λ t. field_of (Self.line name).mark (Self.line name).kind (Some t)) Self.doc v
+        ensures read { IfOk result (λ v. (name : List ℕ)
+            → FromTokens (λ t. field_of (Self.line name).mark (Self.line name).kind (Some t)) Self.doc v
             depth (token_of first.entry ∷ reader.old) reader.new readings.old readings.new) }
         ensures left { OnOk result (length reader.new ≤ length reader.old) };
 
     /// The row's field where there is no member: none where one is asked for.
     fn absent(alloc: Global) -> Option<Self>
-        ensures value { IfSome result (λ v. (name : List ℕ) → field_of (Self.line name).mark (Self.line name).kind None ≡ Some (Self.doc v)) }
+        ensures value { IfSome result (λ v. (name : List ℕ)
+            → field_of (Self.line name).mark (Self.line name).kind None ≡ Some (Self.doc v)) }
         ensures no_schema { IfSome result (λ v. schema_count (Self.doc v) ≡ 0) };
 
     // The row has the name that it is given.
@@ -142,7 +144,8 @@ pub trait OpenFields<R: RowFields>: Drop {
 
     /// The rows before the first member.
     fn begin() -> Self
-        ensures held { (names : List (List ℕ)) → length names ≡ R.count → AreHeld (R.rows names) (held result) no_members }
+        ensures held { (names : List (List ℕ)) → length names ≡ R.count
+            → AreHeld (R.rows names) (held result) no_members }
         ensures no_schema { held_schema_count (held result) ≡ 0 };
 
     /// Reads the member of this name, which begins with the token `first` and goes on with those that the reader has, where it is a
@@ -159,7 +162,8 @@ pub trait OpenFields<R: RowFields>: Drop {
         readings: &mut Readings,
     ) -> Result<bool, Unread>
         requires { length names.now ≡ R.count }
-        ensures taken { IfOk result (λ found. IsTrue found → Taken (R.rows (texts names.now)) name.now (held self.old) (held self.new)
+        ensures taken { IfOk result (λ found. IsTrue found
+            → Taken (R.rows (texts names.now)) name.now (held self.old) (held self.new)
             depth (token_of first.entry ∷ reader.old) reader.new readings.old readings.new) }
         ensures other { IfOk result (λ found. found ≡ false → (is_row name.now (R.rows (texts names.now)) ≡ false)
             × (self.new ≡ self.old) × (reader.new ≡ reader.old) × (readings.new ≡ readings.old)) }
@@ -167,7 +171,8 @@ pub trait OpenFields<R: RowFields>: Drop {
 
     /// The rows' fields when the last member has come. Fails where the member of a row that asks for one has not come.
     fn close(self, alloc: Global) -> Result<R, Unread>
-        ensures fields { IfOk result (λ v. (names : List (List ℕ)) → length names ≡ R.count → held_fields (R.rows names) (held self) ≡ Some (R.docs v)) }
+        ensures fields { IfOk result (λ v. (names : List (List ℕ)) → length names ≡ R.count
+            → held_fields (R.rows names) (held self) ≡ Some (R.docs v)) }
         ensures schemas { IfOk result (λ v. docs_schema_count (R.docs v) ≤ held_schema_count (held self)) };
 }
 

@@ -68,7 +68,8 @@ impl<'a> PendingExtensions<'a> {
         out: &mut S,
         name: &str,
     ) -> Result<PendingExtensions<'a>, AllocError>
-        ensures { IfOk result (λ left. NameSent S.adds name.now (pending_view self.entry) (pending_view left) out.old out.new) }
+        ensures { IfOk result (λ left. NameSent S.adds name.now (pending_view self.entry)
+            (pending_view left) out.old out.new) }
     {
         let pending = self.emit_before(out, name)?;
         out.key(name)?;

@@ -87,7 +87,8 @@ impl Ref {
     /// A reference to a response of the components, by its name, which is taken as it stands. Fails where memory
     /// runs out.
     pub fn from_response_name(alloc: Global, response_name: &str) -> Result<Ref, AllocError>
-        ensures { IfOk result (λ r. (string_bytes r.ref_location ≡ response_location response_name.now) × StandsAlone r) }
+        ensures { IfOk result (λ r. (string_bytes r.ref_location ≡ response_location response_name.now)
+            × StandsAlone r) }
     {
         Ok(Ref::new(alloc, joined(alloc, RESPONSES, response_name)?))
     }

@@ -190,7 +190,8 @@ pub fn read_table<R: RowFields>(
 ) -> Result<(R, Option<Extensions>), ReadFault>
     requires { length names.now ≡ R.count }
     ensures { (n : ObjectType) → R.rows (texts names.now) ≡ table n → has_extensions n ≡ true
-        → Reads (read (named n) (view tree.now)) (λ v. table_doc n (R.docs v.0) (option_map extensions_view v.1)) result
+        → Reads (read (named n) (view tree.now))
+        (λ v. table_doc n (R.docs v.0) (option_map extensions_view v.1)) result
         readings.old readings.new (values (view tree.now)) }
 {
     if !tree.is_object() {

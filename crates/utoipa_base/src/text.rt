@@ -21,7 +21,8 @@ pub(crate) fn from_text<T: Tree>(alloc: Global, text: &str) -> Counted<T>
     ensures ok { IfOk result.outcome (λ v. IsTextOf T.kind (T.doc v) text.now) }
     ensures err { IfErr result.outcome (RefusesText T.kind text.now) }
     ensures at_most { (tree : Data) → read_text text.now ≡ Some tree → result.readings ≤ values tree }
-    ensures at_least { IfOk result.outcome (λ v. result.readings < u64.MAX → schema_count (T.doc v) ≤ result.readings) }
+    ensures at_least { IfOk result.outcome (λ v. result.readings < u64.MAX
+        → schema_count (T.doc v) ≤ result.readings) }
 {
     let mut readings = Readings::new();
     match by_tokens(alloc, text, &mut readings) {
@@ -40,8 +41,10 @@ pub(crate) fn from_text<T: Tree>(alloc: Global, text: &str) -> Counted<T>
 // The value of a text by its tokens. What was counted stands for nothing where this fails.
 fn by_tokens<T: Tree>(alloc: Global, text: &str, readings: &mut Readings) -> Result<T, Unread>
     ensures ok { IfOk result (λ v. IsTextOf T.kind (T.doc v) text.now) }
-    ensures at_most { IfOk result (λ v. (tree : Data) → read_text text.now ≡ Some tree → readings.new ≤ readings.old + values tree) }
-    ensures at_least { IfOk result (λ v. readings.new < u64.MAX → readings.old + schema_count (T.doc v) ≤ readings.new) }
+    ensures at_most { IfOk result (λ v. (tree : Data) → read_text text.now ≡ Some tree
+        → readings.new ≤ readings.old + values tree) }
+    ensures at_least { IfOk result (λ v. readings.new < u64.MAX
+        → readings.old + schema_count (T.doc v) ≤ readings.new) }
 {
     let mut scratch = Scratch::new(alloc);
     let mut reader = Reader::new(text, &mut scratch)?;
@@ -58,7 +61,8 @@ fn by_tree<T: Tree>(alloc: Global, text: &str) -> Counted<T>
     ensures ok { IfOk result.outcome (λ v. IsTextOf T.kind (T.doc v) text.now) }
     ensures err { IfErr result.outcome (RefusesText T.kind text.now) }
     ensures at_most { (tree : Data) → read_text text.now ≡ Some tree → result.readings ≤ values tree }
-    ensures at_least { IfOk result.outcome (λ v. result.readings < u64.MAX → schema_count (T.doc v) ≤ result.readings) }
+    ensures at_least { IfOk result.outcome (λ v. result.readings < u64.MAX
+        → schema_count (T.doc v) ≤ result.readings) }
 {
     match tree_of(alloc, text) {
         Ok(tree) => T::from_value_counted(alloc, &tree),

@@ -24,7 +24,8 @@ pub fn next_tree(
     reader: &mut Reader<'_>,
     depth: usize,
 ) -> Result<Value, Unread>
-    ensures ok { IfOk result (λ v. converted of_json (value depth (token_of first.entry ∷ reader.old)) ≡ Some (view v, reader.new)) }
+    ensures ok { IfOk result (λ v. converted of_json (value depth (token_of first.entry ∷ reader.old))
+        ≡ Some (view v, reader.new)) }
     ensures plain { IfOk result (λ v. has_float (view v) ≡ false) }
     ensures left { OnOk result (length reader.new ≤ length reader.old) }
 {

@@ -42,7 +42,8 @@ pub trait Tree: Emit {
     /// Fails where the tree is no value of the type, by the first member that does not fit, and where memory runs out.
     /// Answers no `Fraction`: where the tree holds one, it is judged by its kind like any other value.
     fn read_plain(alloc: Global, tree: &Value, readings: &mut Readings) -> Result<Self, ReadFault>
-        ensures { Reads (read Self.kind (view tree.now)) Self.doc result readings.old readings.new (values (view tree.now)) };
+        ensures { Reads (read Self.kind (view tree.now)) Self.doc result readings.old readings.new
+            (values (view tree.now)) };
 
     /// Reads the value from the tokens of a text, and counts the schema readings on the way: it begins with the token `first` and goes
     /// on with those that the reader has, and nests no deeper than `depth`.
@@ -79,7 +80,8 @@ pub trait Tree: Emit {
     final fn from_value(alloc: Global, tree: &Value) -> Result<Self, ReadFault>
         ensures fraction { IsErrOf result ReadFault.Fraction ↔ (has_float (view tree.now) ≡ true) }
         ensures ok { IfOk result (λ v. read Self.kind (view tree.now) ≡ Some (Self.doc v)) }
-        ensures err { IfErr result (λ e. has_float (view tree.now) ≡ false → Refuses (read Self.kind (view tree.now)) e) }
+        ensures err { IfErr result (λ e. has_float (view tree.now) ≡ false
+            → Refuses (read Self.kind (view tree.now)) e) }
     {
         if has_fraction(tree) {
             return Err(ReadFault::Fraction);
@@ -100,7 +102,8 @@ pub trait Tree: Emit {
             → Refuses (read Self.kind (view tree.now)) e) }
         ensures uncounted { has_float (view tree.now) ≡ true → result.readings ≡ 0 }
         ensures at_most { result.readings ≤ values (view tree.now) }
-        ensures at_least { IfOk result.outcome (λ v. result.readings < u64.MAX → schema_count (Self.doc v) ≤ result.readings) }
+        ensures at_least { IfOk result.outcome (λ v. result.readings < u64.MAX
+            → schema_count (Self.doc v) ≤ result.readings) }
     {
         if has_fraction(tree) {
             return Counted {
@@ -135,7 +138,8 @@ pub trait Tree: Emit {
         ensures ok { IfOk result.outcome (λ v. IsTextOf Self.kind (Self.doc v) text.now) }
         ensures err { IfErr result.outcome (RefusesText Self.kind text.now) }
         ensures at_most { (tree : Data) → read_text text.now ≡ Some tree → result.readings ≤ values tree }
-        ensures at_least { IfOk result.outcome (λ v. result.readings < u64.MAX → schema_count (Self.doc v) ≤ result.readings) }
+        ensures at_least { IfOk result.outcome (λ v. result.readings < u64.MAX
+            → schema_count (Self.doc v) ≤ result.readings) }
     {
         from_text(alloc, text)
     }

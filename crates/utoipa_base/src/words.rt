@@ -54,7 +54,8 @@ pub trait Word: Drop {
 /// memory.
 #[tactic(auto, using(crate::proofs::ByWords::by_words))]
 pub fn read_word<W: Word>(tree: &Value, name: &'static str) -> Result<W, ReadFault>
-    ensures ok { IfOk result (λ word. read (word_of W.vocabulary) (view tree.now) ≡ Some (word_doc (W.spelling word))) }
+    ensures ok { IfOk result (λ word. read (word_of W.vocabulary) (view tree.now)
+        ≡ Some (word_doc (W.spelling word))) }
     ensures err { IfErr result (Refuses (read (word_of W.vocabulary) (view tree.now))) }
     ensures no_word { IfErr result (λ e. is_some (as_str (view tree.now)) ≡ true → e ≡ ReadFault.Word name.entry) }
     ensures no_text { IfErr result (λ e. is_some (as_str (view tree.now)) ≡ false → e ≡ ReadFault.Kind name.entry) }

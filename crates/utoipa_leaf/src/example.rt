@@ -42,7 +42,9 @@ impl Example {
 
     /// A builder that begins with an example of which nothing is said. Takes no memory.
     pub fn builder(alloc: Global) -> ExampleBuilder
-        ensures { (summary : _) × (description : _) × (external_value : _) × (string_bytes summary ≡ []) × (string_bytes description ≡ []) × (string_bytes external_value ≡ []) × (built_example result ≡ empty_example summary description external_value) }
+        ensures { (summary : _) × (description : _) × (external_value : _) × (string_bytes summary ≡ [])
+            × (string_bytes description ≡ []) × (string_bytes external_value ≡ [])
+            × (built_example result ≡ empty_example summary description external_value) }
     {
         ExampleBuilder::new(alloc)
     }
@@ -102,7 +104,9 @@ impl ExampleBuilder {
 
     /// Begins with an example of which nothing is said: its texts are empty. Takes no memory.
     pub fn new(alloc: Global) -> ExampleBuilder
-        ensures { (summary : _) × (description : _) × (external_value : _) × (string_bytes summary ≡ []) × (string_bytes description ≡ []) × (string_bytes external_value ≡ []) × (built_example result ≡ empty_example summary description external_value) }
+        ensures { (summary : _) × (description : _) × (external_value : _) × (string_bytes summary ≡ [])
+            × (string_bytes description ≡ []) × (string_bytes external_value ≡ [])
+            × (built_example result ≡ empty_example summary description external_value) }
     {
         ExampleBuilder {
             example: Example {

@@ -39,7 +39,8 @@ impl ExternalDocs {
     ///
     /// Fails where memory runs out.
     pub fn new(alloc: Global, url: &str) -> Result<ExternalDocs, AllocError>
-        ensures { IfOk result (λ docs. (text : _) × (string_bytes text ≡ url.now) × (docs ≡ empty_external_docs text)) }
+        ensures { IfOk result (λ docs. (text : _) × (string_bytes text ≡ url.now)
+            × (docs ≡ empty_external_docs text)) }
     {
         Ok(ExternalDocs::at_url(String::from_str(alloc, url)?))
     }

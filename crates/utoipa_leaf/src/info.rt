@@ -113,7 +113,8 @@ impl Info {
 
     /// A builder that begins with an empty title and an empty version. Takes no memory.
     pub fn builder(alloc: Global) -> InfoBuilder
-        ensures { (title : _) × (version : _) × (string_bytes title ≡ []) × (string_bytes version ≡ []) × (built_info result ≡ empty_info title version) }
+        ensures { (title : _) × (version : _) × (string_bytes title ≡ []) × (string_bytes version ≡ [])
+            × (built_info result ≡ empty_info title version) }
     {
         InfoBuilder::new(alloc)
     }
@@ -298,7 +299,8 @@ impl InfoBuilder {
 
     /// Begins with an empty title and an empty version, with nothing else. Takes no memory.
     pub fn new(alloc: Global) -> InfoBuilder
-        ensures { (title : _) × (version : _) × (string_bytes title ≡ []) × (string_bytes version ≡ []) × (built_info result ≡ empty_info title version) }
+        ensures { (title : _) × (version : _) × (string_bytes title ≡ []) × (string_bytes version ≡ [])
+            × (built_info result ≡ empty_info title version) }
     {
         InfoBuilder {
             info: Info::new(String::new(alloc), String::new(alloc)),

@@ -113,7 +113,8 @@ impl ServerVariable {
 
     /// A builder that begins with a variable whose value is the empty text. Takes no memory.
     pub fn builder(alloc: Global) -> ServerVariableBuilder
-        ensures { (value : _) × (string_bytes value ≡ []) × (built_server_variable result ≡ empty_server_variable value) }
+        ensures { (value : _) × (string_bytes value ≡ [])
+            × (built_server_variable result ≡ empty_server_variable value) }
     {
         ServerVariableBuilder::new(alloc)
     }
@@ -295,7 +296,8 @@ impl ServerBuilder {
         variable: ServerVariable,
     ) -> Result<ServerBuilder, AllocError>
         ensures { IfOk result (λ b. (variables : Variables)
-            × (variables.entries ≡ insert_entry string_cmp (entries_or_none (built_server self).variables) name variable)
+            × (variables.entries
+            ≡ insert_entry string_cmp (entries_or_none (built_server self).variables) name variable)
             × (built_server b ≡ record (built_server self) { variables = Some variables })) }
     {
         let mut variables = self.server.variables.take().unwrap_or(BTreeMap::new(alloc));
@@ -353,7 +355,8 @@ impl ServerVariableBuilder {
 
     /// Begins with a variable whose value is the empty text, with nothing else. Takes no memory.
     pub fn new(alloc: Global) -> ServerVariableBuilder
-        ensures { (value : _) × (string_bytes value ≡ []) × (built_server_variable result ≡ empty_server_variable value) }
+        ensures { (value : _) × (string_bytes value ≡ [])
+            × (built_server_variable result ≡ empty_server_variable value) }
     {
         ServerVariableBuilder {
             variable: ServerVariable {
@@ -367,7 +370,8 @@ impl ServerVariableBuilder {
 
     /// Sets the value that is used where no other is supplied.
     pub fn default_value(mut self, default_value: String) -> ServerVariableBuilder
-        ensures { built_server_variable result ≡ record (built_server_variable self) { default_value = default_value } }
+        ensures { built_server_variable result
+            ≡ record (built_server_variable self) { default_value = default_value } }
     {
         self.variable.default_value = default_value;
         self

@@ -67,7 +67,8 @@ impl Numbers {
 
     // With the number of a piece, if it counts.
     fn and_piece(self, piece: &str) -> Numbers
-        ensures { (rest : List ℤ) → version_after result rest ≡ version_after self (and_number (piece_number piece.now) rest) }
+        ensures { (rest : List ℤ) → version_after result rest
+            ≡ version_after self (and_number (piece_number piece.now) rest) }
     {
         match number_of(piece) {
             Some(number) => self.and(number),

@@ -36,7 +36,8 @@ pub(crate) fn assemble_content(
 ) -> Result<Content, ReadFault>
     ensures { (start : ℕ)
         → Reads {A = Docs} (part encodings_rows (view tree.now)) list_doc
-        (Ok (encodings_docs encodings.0 encodings.1 encodings.2)) start readings.old (rows_values encodings_rows (view tree.now))
+        (Ok (encodings_docs encodings.0 encodings.1 encodings.2)) start readings.old
+        (rows_values encodings_rows (view tree.now))
         → Reads (read (named media_type_object) (view tree.now)) content_doc result
         start readings.new (values (view tree.now)) }
 {
@@ -57,11 +58,13 @@ pub(crate) fn assemble_encoding(
     readings: &mut Readings,
 ) -> Result<Encoding, ReadFault>
     ensures { (start middle : ℕ)
-        → Reads {A = Headers} (field (row (codes "headers") defaulted (map_of (ref_or (named header_object)))) (view tree.now))
+        → Reads {A = Headers}
+        (field (row (codes "headers") defaulted (map_of (ref_or (named header_object)))) (view tree.now))
         (map_of_docs (ref_or_doc (named header_object) header_doc)) (Ok headers)
         start middle (values_at (codes "headers") (view tree.now))
         → Reads {A = Docs} (part encodings_rows (view tree.now)) list_doc
-        (Ok (encodings_docs encodings.0 encodings.1 encodings.2)) middle readings.old (rows_values encodings_rows (view tree.now))
+        (Ok (encodings_docs encodings.0 encodings.1 encodings.2)) middle readings.old
+        (rows_values encodings_rows (view tree.now))
         → Reads (read (named encoding_object) (view tree.now)) encoding_doc result
         start readings.new (values (view tree.now)) }
 {
@@ -82,7 +85,8 @@ pub(crate) fn assemble_header(
     readings: &mut Readings,
 ) -> Result<Header, ReadFault>
     ensures { (start : ℕ)
-        → Reads {A = Contents} (field (row (codes "content") defaulted (map_of (ref_or (named media_type_object)))) (view tree.now))
+        → Reads {A = Contents}
+        (field (row (codes "content") defaulted (map_of (ref_or (named media_type_object)))) (view tree.now))
         (map_of_docs (ref_or_doc (named media_type_object) content_doc)) (Ok content)
         start readings.old (values_at (codes "content") (view tree.now))
         → Reads (read (named header_object) (view tree.now)) header_doc result

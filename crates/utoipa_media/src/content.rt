@@ -103,7 +103,8 @@ impl ContentBuilder {
     ) -> Result<ContentBuilder, AllocError>
         requires can { I.can_next examples }
         requires ends { IsFinite (I.remaining examples) }
-        ensures { IfOk result (λ b. (given : Pairs (RefOr Example)) × (held : Examples) × Drains I.next_gives examples given
+        ensures { IfOk result (λ b. (given : Pairs (RefOr Example)) × (held : Examples)
+            × Drains I.next_gives examples given
             × (held.entries ≡ put_each given (built_content self).examples.entries)
             × (built_content b ≡ record (built_content self) { examples = held })) }
     {
@@ -119,7 +120,8 @@ impl ContentBuilder {
         encoding: Encoding,
     ) -> Result<ContentBuilder, AllocError>
         ensures { IfOk result (λ b. (encodings : Encodings)
-            × (encodings.entries ≡ insert_entry string_cmp (built_content self).encoding.entries property_name encoding)
+            × (encodings.entries
+            ≡ insert_entry string_cmp (built_content self).encoding.entries property_name encoding)
             × (built_content b ≡ record (built_content self) { encoding = encodings })) }
     {
         put(&mut self.content.encoding, property_name, encoding).and(Ok(self))

@@ -188,7 +188,8 @@ fn clone_content_with(
     encodings: EncodingMembers,
 ) -> Result<Content, AllocError>
     ensures { IfOk result (λ copy. encodings_docs encodings.0 encodings.1 encodings.2
-        ≡ encodings_docs (out-Content content.now).encoding (out-Content content.now).prefix_encoding (out-Content content.now).item_encoding
+        ≡ encodings_docs (out-Content content.now).encoding (out-Content content.now).prefix_encoding
+        (out-Content content.now).item_encoding
         → content_doc copy ≡ content_doc content.now) }
 {
     let rows = content_rows!(row_values!(content));
@@ -211,7 +212,8 @@ fn clone_encoding_with(
     ensures { IfOk result (λ copy. map_of_docs (ref_or_doc (named header_object) header_doc) headers
         ≡ map_of_docs (ref_or_doc (named header_object) header_doc) (out-Encoding encoding.now).headers
         → encodings_docs encodings.0 encodings.1 encodings.2
-        ≡ encodings_docs (out-Encoding encoding.now).encoding (out-Encoding encoding.now).prefix_encoding (out-Encoding encoding.now).item_encoding
+        ≡ encodings_docs (out-Encoding encoding.now).encoding (out-Encoding encoding.now).prefix_encoding
+        (out-Encoding encoding.now).item_encoding
         → encoding_doc copy ≡ encoding_doc encoding.now) }
 {
     let rows = encoding_rows!(row_values!(encoding));

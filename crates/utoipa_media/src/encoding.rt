@@ -63,7 +63,8 @@ impl EncodingBuilder {
     /// Fails where memory runs out, and then gives up what was built.
     pub fn header(mut self, name: String, header: Header) -> Result<EncodingBuilder, AllocError>
         ensures { IfOk result (λ b. (headers : Headers)
-            × (headers.entries ≡ insert_entry string_cmp (built_encoding self).headers.entries name (header_place header))
+            × (headers.entries
+            ≡ insert_entry string_cmp (built_encoding self).headers.entries name (header_place header))
             × (built_encoding b ≡ record (built_encoding self) { headers = headers })) }
     {
         put(&mut self.encoding.headers, name, RefOr::T(header)).and(Ok(self))
@@ -74,7 +75,8 @@ impl EncodingBuilder {
     /// Fails where memory runs out, and then gives up what was built.
     pub fn header_ref(mut self, name: String, reference: Ref) -> Result<EncodingBuilder, AllocError>
         ensures { IfOk result (λ b. (headers : Headers)
-            × (headers.entries ≡ insert_entry string_cmp (built_encoding self).headers.entries name (header_reference reference))
+            × (headers.entries
+            ≡ insert_entry string_cmp (built_encoding self).headers.entries name (header_reference reference))
             × (built_encoding b ≡ record (built_encoding self) { headers = headers })) }
     {
         put(&mut self.encoding.headers, name, RefOr::Ref(reference)).and(Ok(self))
@@ -113,7 +115,8 @@ impl EncodingBuilder {
         encoding: Encoding,
     ) -> Result<EncodingBuilder, AllocError>
         ensures { IfOk result (λ b. (encodings : Encodings)
-            × (encodings.entries ≡ insert_entry string_cmp (built_encoding self).encoding.entries property_name encoding)
+            × (encodings.entries
+            ≡ insert_entry string_cmp (built_encoding self).encoding.entries property_name encoding)
             × (built_encoding b ≡ record (built_encoding self) { encoding = encodings })) }
     {
         put(&mut self.encoding.encoding, property_name, encoding).and(Ok(self))

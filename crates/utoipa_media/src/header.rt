@@ -120,7 +120,8 @@ impl HeaderBuilder {
     ) -> Result<HeaderBuilder, AllocError>
         requires can { I.can_next examples }
         requires ends { IsFinite (I.remaining examples) }
-        ensures { IfOk result (λ b. (given : Pairs (RefOr Example)) × (held : Examples) × Drains I.next_gives examples given
+        ensures { IfOk result (λ b. (given : Pairs (RefOr Example)) × (held : Examples)
+            × Drains I.next_gives examples given
             × (held.entries ≡ put_each given (built_header self).examples.entries)
             × (built_header b ≡ record (built_header self) { examples = held })) }
     {
@@ -152,7 +153,8 @@ impl HeaderBuilder {
     ) -> Result<HeaderBuilder, AllocError>
         requires can { I.can_next contents }
         requires ends { IsFinite (I.remaining contents) }
-        ensures { IfOk result (λ b. (given : Pairs (RefOr Content)) × (held : Contents) × Drains I.next_gives contents given
+        ensures { IfOk result (λ b. (given : Pairs (RefOr Content)) × (held : Contents)
+            × Drains I.next_gives contents given
             × (held.entries ≡ put_each given (built_header self).content.entries)
             × (built_header b ≡ record (built_header self) { content = held })) }
     {

@@ -79,7 +79,8 @@ pub(crate) fn content_of(
     encodings: EncodingMembers,
 ) -> Content
     ensures { content_doc result ≡ table_doc media_type_object
-        (docs_woven content_order (⟦<ContentRows as RowFields>⟧.docs rows) (encodings_docs encodings.0 encodings.1 encodings.2))
+        (docs_woven content_order (⟦<ContentRows as RowFields>⟧.docs rows)
+        (encodings_docs encodings.0 encodings.1 encodings.2))
         (option_map extensions_view extensions) }
 {
     let (encoding, prefix_encoding, item_encoding) = encodings;

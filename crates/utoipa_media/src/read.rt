@@ -204,7 +204,8 @@ fn read_contents(
     tree: &Value,
     readings: &mut Readings,
 ) -> Result<BTreeMap<String, RefOr<Content>>, ReadFault>
-    ensures { Reads (field (row (codes "content") defaulted (map_of (ref_or (named media_type_object)))) (view tree.now))
+    ensures { Reads
+        (field (row (codes "content") defaulted (map_of (ref_or (named media_type_object)))) (view tree.now))
         (map_of_docs (ref_or_doc (named media_type_object) content_doc)) result
         readings.old readings.new (values_at (codes "content") (view tree.now)) }
 {

@@ -93,7 +93,8 @@ pub fn read_ref_or_header(
     tree: &Value,
     readings: &mut Readings,
 ) -> Result<RefOr<Header>, ReadFault>
-    ensures { Reads (read_as ⟦<RefOr<Header> as Documented>⟧.kind (view tree.now)) ⟦<RefOr<Header> as Documented>⟧.doc result
+    ensures { Reads (read_as ⟦<RefOr<Header> as Documented>⟧.kind (view tree.now))
+        ⟦<RefOr<Header> as Documented>⟧.doc result
         readings.old readings.new (values (view tree.now)) }
 {
     read::read_ref_or_header(alloc, tree, readings)
@@ -107,7 +108,8 @@ pub fn read_encoding_list(
     tree: &Value,
     readings: &mut Readings,
 ) -> Result<Vec<Encoding>, ReadFault>
-    ensures { Reads (read_as ⟦<Vec<Encoding> as Documented>⟧.kind (view tree.now)) ⟦<Vec<Encoding> as Documented>⟧.doc result
+    ensures { Reads (read_as ⟦<Vec<Encoding> as Documented>⟧.kind (view tree.now))
+        ⟦<Vec<Encoding> as Documented>⟧.doc result
         readings.old readings.new (values (view tree.now)) }
 {
     read::read_encoding_list(alloc, tree, readings)
@@ -121,7 +123,8 @@ pub fn read_content_map(
     tree: &Value,
     readings: &mut Readings,
 ) -> Result<BTreeMap<String, RefOr<Content>>, ReadFault>
-    ensures { Reads (read_as ⟦<BTreeMap<String, RefOr<Content>> as Documented>⟧.kind (view tree.now)) ⟦<BTreeMap<String, RefOr<Content>> as Documented>⟧.doc result
+    ensures { Reads (read_as ⟦<BTreeMap<String, RefOr<Content>> as Documented>⟧.kind (view tree.now))
+        ⟦<BTreeMap<String, RefOr<Content>> as Documented>⟧.doc result
         readings.old readings.new (values (view tree.now)) }
 {
     read::read_content_map(alloc, tree, readings)

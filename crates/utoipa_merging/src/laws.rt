@@ -27,7 +27,8 @@ ghost use Rattle.utoipa_merging.specs.Texts.{AreTextsMerged, AreTextsMergedByPai
 
 /// Merging what two lists of documents are merged to merges the documents of both. The lists may be of any length.
 pub fn merging_composes()
-    ensures { (xs ys : List Doc) (a b d : Doc) → IsMerged xs a → IsMerged ys b → IsMerged (a ∷ b ∷ []) d → IsMerged (xs ++ ys) d }
+    ensures { (xs ys : List Doc) (a b d : Doc) → IsMerged xs a → IsMerged ys b → IsMerged (a ∷ b ∷ []) d
+        → IsMerged (xs ++ ys) d }
 {}
 
 /// Merging pair by pair, in any brackets, merges the documents from left to right.
@@ -65,47 +66,59 @@ pub fn nothing_added()
 
 /// A document is nested into another in one way at most, up to the order of the keys.
 pub fn nested_in_one_way()
-    ensures { (answers : List (List ℕ)) (own nested c d : Doc) → IsOpenApi own → IsNested answers own nested c → IsNested answers own nested d
+    ensures { (answers : List (List ℕ)) (own nested c d : Doc) → IsOpenApi own → IsNested answers own nested c
+        → IsNested answers own nested d
         → IsInKeyOrder c → IsInKeyOrder d → c ≡ d }
 {}
 
 /// After nesting an answered path has the whole item of the last nested path with this answer, and every other path its own.
 /// The nested Paths extensions are dropped.
 pub fn nested_paths()
-    ensures items { (answers : List (List ℕ)) (own nested d : Doc) → IsOpenApi own → IsOpenApi nested → IsNested answers own nested d
-        → (path : List ℕ) (s : ItemSlot) → path_slot path s (paths_of d) ≡ option_and_then (item_slot s) (mounted_at answers nested own path) }
-    ensures extensions { (answers : List (List ℕ)) (own nested d : Doc) → IsOpenApi own → IsOpenApi nested → IsNested answers own nested d
+    ensures items { (answers : List (List ℕ)) (own nested d : Doc) → IsOpenApi own → IsOpenApi nested
+        → IsNested answers own nested d
+        → (path : List ℕ) (s : ItemSlot)
+        → path_slot path s (paths_of d) ≡ option_and_then (item_slot s) (mounted_at answers nested own path) }
+    ensures extensions { (answers : List (List ℕ)) (own nested d : Doc) → IsOpenApi own → IsOpenApi nested
+        → IsNested answers own nested d
         → (has_extensions (paths_of d) ≡ has_extensions (paths_of own))
         × ((name : List ℕ) → extension_at name (paths_of d) ≡ extension_at name (paths_of own)) }
 {}
 
 /// What plain documents are merged into is plain, where its maps stand in the order of their keys.
 pub fn merged_stays_plain()
-    ensures { (documents : List Doc) (d : Doc) → IsMerged documents d → All IsPlain documents → IsInKeyOrder d → IsPlain d }
+    ensures { (documents : List Doc) (d : Doc) → IsMerged documents d → All IsPlain documents → IsInKeyOrder d
+        → IsPlain d }
 {}
 
 /// What a plain document is with a plain one nested into it is plain, where its maps stand in the order of their keys.
 pub fn nested_stays_plain()
-    ensures { (answers : List (List ℕ)) (own nested d : Doc) → IsOpenApi own → IsOpenApi nested → IsNested answers own nested d
+    ensures { (answers : List (List ℕ)) (own nested d : Doc) → IsOpenApi own → IsOpenApi nested
+        → IsNested answers own nested d
         → IsPlain own → IsPlain nested → IsInKeyOrder d → IsPlain d }
 {}
 
 /// What well-formed documents are merged into is well-formed, where its maps stand in the order of their keys. So it is of what is
 /// unambiguous, whether plain or not.
 pub fn merged_stays_well_formed()
-    ensures well_formed { (documents : List Doc) (d : Doc) → IsMerged documents d → All IsOpenApi documents → All IsWellFormed documents
+    ensures well_formed { (documents : List Doc) (d : Doc) → IsMerged documents d → All IsOpenApi documents
+        → All IsWellFormed documents
         → IsInKeyOrder d → IsWellFormed d }
-    ensures unambiguous { (documents : List Doc) (d : Doc) → IsMerged documents d → All IsOpenApi documents → All IsUnambiguous documents
+    ensures unambiguous { (documents : List Doc) (d : Doc) → IsMerged documents d → All IsOpenApi documents
+        → All IsUnambiguous documents
         → IsInKeyOrder d → IsUnambiguous d }
 {}
 
 /// What a well-formed document is with a well-formed one nested into it is well-formed exactly where no answer begins `x-`, as the name
 /// of an extension does. So it is of what is unambiguous, whether plain or not.
 pub fn nested_stays_well_formed()
-    ensures well_formed { (answers : List (List ℕ)) (own nested d : Doc) → IsOpenApi own → IsOpenApi nested → IsNested answers own nested d
-        → IsWellFormed own → IsWellFormed nested → IsInKeyOrder d → IsWellFormed d ↔ All (λ a. is_extension a ≡ false) answers }
-    ensures unambiguous { (answers : List (List ℕ)) (own nested d : Doc) → IsOpenApi own → IsOpenApi nested → IsNested answers own nested d
-        → IsUnambiguous own → IsUnambiguous nested → IsInKeyOrder d → IsUnambiguous d ↔ All (λ a. is_extension a ≡ false) answers }
+    ensures well_formed { (answers : List (List ℕ)) (own nested d : Doc) → IsOpenApi own → IsOpenApi nested
+        → IsNested answers own nested d
+        → IsWellFormed own → IsWellFormed nested → IsInKeyOrder d
+        → IsWellFormed d ↔ All (λ a. is_extension a ≡ false) answers }
+    ensures unambiguous { (answers : List (List ℕ)) (own nested d : Doc) → IsOpenApi own → IsOpenApi nested
+        → IsNested answers own nested d
+        → IsUnambiguous own → IsUnambiguous nested → IsInKeyOrder d
+        → IsUnambiguous d ↔ All (λ a. is_extension a ≡ false) answers }
 {}
 
 /// What documents in normal form are merged into is in normal form, where its maps stand in the order of their keys.
@@ -116,17 +129,21 @@ pub fn merged_stays_normal()
 
 /// What a document in normal form is with such a one nested into it is in normal form, where its maps stand in the order of their keys.
 pub fn nested_stays_normal()
-    ensures { (answers : List (List ℕ)) (own nested d : Doc) → IsOpenApi own → IsOpenApi nested → IsNested answers own nested d
+    ensures { (answers : List (List ℕ)) (own nested d : Doc) → IsOpenApi own → IsOpenApi nested
+        → IsNested answers own nested d
         → normal_form own ≡ own → normal_form nested ≡ nested → IsInKeyOrder d → normal_form d ≡ d }
 {}
 
 /// What unambiguous documents are merged into is written no deeper than they are, of five levels and more, and so is what an unambiguous document
 /// is with one nested into it, where no answer begins `x-`.
 pub fn merged_no_deeper()
-    ensures merged { (n : ℕ) → 5 ≤ n → (documents : List Doc) (d : Doc) → IsMerged documents d → All IsOpenApi documents → All IsUnambiguous documents
+    ensures merged { (n : ℕ) → 5 ≤ n → (documents : List Doc) (d : Doc) → IsMerged documents d
+        → All IsOpenApi documents → All IsUnambiguous documents
         → All (λ e. depth (write e) ≤ n) documents → IsInKeyOrder d → depth (write d) ≤ n }
-    ensures nested { (n : ℕ) → 5 ≤ n → (answers : List (List ℕ)) (own nested d : Doc) → IsOpenApi own → IsOpenApi nested
-        → IsNested answers own nested d → IsUnambiguous own → IsUnambiguous nested → All (λ a. is_extension a ≡ false) answers
+    ensures nested { (n : ℕ) → 5 ≤ n → (answers : List (List ℕ)) (own nested d : Doc) → IsOpenApi own
+        → IsOpenApi nested
+        → IsNested answers own nested d → IsUnambiguous own → IsUnambiguous nested
+        → All (λ a. is_extension a ≡ false) answers
         → depth (write own) ≤ n → depth (write nested) ≤ n → IsInKeyOrder d → depth (write d) ≤ n }
 {}
 
@@ -159,25 +176,31 @@ pub fn merging_texts_composes()
 
 /// A well-formed document is read, as its normal form, of each text that has the tree that it is written as.
 pub fn written_text_reads_back()
-    ensures { (d : Doc) (text : List ℕ) → IsOpenApi d → IsWellFormed d → IsWrittenAs d text → IsTextOf (normal_form d) text }
+    ensures { (d : Doc) (text : List ℕ) → IsOpenApi d → IsWellFormed d → IsWrittenAs d text
+        → IsTextOf (normal_form d) text }
 {}
 
 /// Of what the documents of texts are merged into each text that has the tree that it is written as is a text of it, where they are
 /// unambiguous; and it is written no deeper than a text may nest.
 pub fn text_of_what_is_merged()
-    ensures reads { (texts : List (List ℕ)) (d : Doc) (text : List ℕ) → AreTextsMerged texts d → All IsUnambiguousText texts
+    ensures reads { (texts : List (List ℕ)) (d : Doc) (text : List ℕ) → AreTextsMerged texts d
+        → All IsUnambiguousText texts
         → IsWrittenAs d text → IsTextOf d text }
-    ensures depth { (texts : List (List ℕ)) (d : Doc) → AreTextsMerged texts d → All IsUnambiguousText texts → depth (write d) ≤ max_depth }
+    ensures depth { (texts : List (List ℕ)) (d : Doc) → AreTextsMerged texts d → All IsUnambiguousText texts
+        → depth (write d) ≤ max_depth }
 {}
 
 /// Merging texts pair by pair, in any brackets, where what each pair is merged into is written as any text of it and read again, merges the
 /// texts from left to right at once. So in any two brackets the same texts are merged to one document. Of texts of unambiguous documents
 /// what is written need only have the tree of what it is written for.
 pub fn texts_in_any_brackets()
-    ensures at_once { (b : TextBrackets) (d : Doc) → AreTextsMergedByPairs IsTextOf b d → AreTextsMerged (text_leaves b) d }
-    ensures agree { (b c : TextBrackets) (d e : Doc) → text_leaves b ≡ text_leaves c → AreTextsMergedByPairs IsTextOf b d
+    ensures at_once { (b : TextBrackets) (d : Doc) → AreTextsMergedByPairs IsTextOf b d
+        → AreTextsMerged (text_leaves b) d }
+    ensures agree { (b c : TextBrackets) (d e : Doc) → text_leaves b ≡ text_leaves c
+        → AreTextsMergedByPairs IsTextOf b d
         → AreTextsMergedByPairs IsTextOf c e → d ≡ e }
-    ensures written { (b : TextBrackets) (d : Doc) → All IsUnambiguousText (text_leaves b) → AreTextsMergedByPairs IsWrittenAs b d
+    ensures written { (b : TextBrackets) (d : Doc) → All IsUnambiguousText (text_leaves b)
+        → AreTextsMergedByPairs IsWrittenAs b d
         → AreTextsMerged (text_leaves b) d }
 {}
 

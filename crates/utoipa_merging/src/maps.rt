@@ -15,7 +15,8 @@ pub fn fill_missing<T: Drop>(
     alloc: Global,
     later: BTreeMap<String, T>,
 ) -> Result<(), AllocError>
-    ensures ok { OnOk result ((name : List ℕ) → get_by_text map.new name ≡ option_or (get_by_text map.old name) (get_by_text later name)) }
+    ensures ok { OnOk result ((name : List ℕ)
+        → get_by_text map.new name ≡ option_or (get_by_text map.old name) (get_by_text later name)) }
     ensures err { OnErr result (map.new.entries ≡ map.old.entries) }
     ensures ordered { IsOrdered string_cmp map.old → IsOrdered string_cmp map.new }
 {
@@ -26,7 +27,8 @@ pub fn fill_missing<T: Drop>(
 
 /// Keeps the entries whose names the other map lacks. Takes no memory.
 pub fn keep_missing<T: Drop>(entries: &mut BTreeMap<String, T>, map: &BTreeMap<String, T>)
-    ensures { (name : List ℕ) → get_by_text entries.new name ≡ where_missing (get_by_text map.now name) (get_by_text entries.old name) }
+    ensures { (name : List ℕ) → get_by_text entries.new name
+        ≡ where_missing (get_by_text map.now name) (get_by_text entries.old name) }
 {
     entries.retain(|name, _| !map.contains_key(name.as_str()));
 }

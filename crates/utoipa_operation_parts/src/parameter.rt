@@ -249,7 +249,8 @@ impl ParameterBuilder {
     ) -> Result<ParameterBuilder, AllocError>
         requires can { I.can_next contents }
         requires ends { IsFinite (I.remaining contents) }
-        ensures { IfOk result (λ b. (given : Pairs (RefOr Content)) × (held : Contents) × Drains I.next_gives contents given
+        ensures { IfOk result (λ b. (given : Pairs (RefOr Content)) × (held : Contents)
+            × Drains I.next_gives contents given
             × (held.entries ≡ put_each given (built_parameter self).content.entries)
             × (built_parameter b ≡ record (built_parameter self) { content = held })) }
     {

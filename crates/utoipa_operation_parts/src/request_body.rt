@@ -159,7 +159,8 @@ impl RequestBodyBuilder {
         content: Content,
     ) -> Result<RequestBodyBuilder, AllocError>
         ensures { IfOk result (λ b. (contents : Contents)
-            × (contents.entries ≡ insert_entry string_cmp (built_request_body self).content.entries media_type (content_place content))
+            × (contents.entries
+            ≡ insert_entry string_cmp (built_request_body self).content.entries media_type (content_place content))
             × (built_request_body b ≡ record (built_request_body self) { content = contents })) }
     {
         let content = RefOr::T(content);
@@ -175,7 +176,9 @@ impl RequestBodyBuilder {
         reference: Ref,
     ) -> Result<RequestBodyBuilder, AllocError>
         ensures { IfOk result (λ b. (contents : Contents)
-            × (contents.entries ≡ insert_entry string_cmp (built_request_body self).content.entries media_type (content_reference reference))
+            × (contents.entries
+            ≡ insert_entry string_cmp (built_request_body self).content.entries media_type
+            (content_reference reference))
             × (built_request_body b ≡ record (built_request_body self) { content = contents })) }
     {
         let content = RefOr::Ref(reference);

@@ -174,7 +174,8 @@ impl ResponseBuilder {
         content: Content,
     ) -> Result<ResponseBuilder, AllocError>
         ensures { IfOk result (λ b. (contents : OrderedContents)
-            × (contents.entries ≡ insert_in_order string_eq (built_response self).content.entries media_type (content_place content))
+            × (contents.entries
+            ≡ insert_in_order string_eq (built_response self).content.entries media_type (content_place content))
             × (built_response b ≡ record (built_response self) { content = contents })) }
     {
         put_in_order(&mut self.response.content, media_type, RefOr::T(content)).and(Ok(self))
@@ -190,7 +191,8 @@ impl ResponseBuilder {
         reference: Ref,
     ) -> Result<ResponseBuilder, AllocError>
         ensures { IfOk result (λ b. (contents : OrderedContents)
-            × (contents.entries ≡ insert_in_order string_eq (built_response self).content.entries media_type (content_reference reference))
+            × (contents.entries
+            ≡ insert_in_order string_eq (built_response self).content.entries media_type (content_reference reference))
             × (built_response b ≡ record (built_response self) { content = contents })) }
     {
         let content = RefOr::Ref(reference);
@@ -202,7 +204,8 @@ impl ResponseBuilder {
     /// Fails where memory runs out, and then gives up what was built.
     pub fn header(mut self, name: String, header: Header) -> Result<ResponseBuilder, AllocError>
         ensures { IfOk result (λ b. (headers : Headers)
-            × (headers.entries ≡ insert_entry string_cmp (built_response self).headers.entries name (header_place header))
+            × (headers.entries
+            ≡ insert_entry string_cmp (built_response self).headers.entries name (header_place header))
             × (built_response b ≡ record (built_response self) { headers = headers })) }
     {
         put(&mut self.response.headers, name, RefOr::T(header)).and(Ok(self))
@@ -213,7 +216,8 @@ impl ResponseBuilder {
     /// Fails where memory runs out, and then gives up what was built.
     pub fn header_ref(mut self, name: String, reference: Ref) -> Result<ResponseBuilder, AllocError>
         ensures { IfOk result (λ b. (headers : Headers)
-            × (headers.entries ≡ insert_entry string_cmp (built_response self).headers.entries name (header_reference reference))
+            × (headers.entries
+            ≡ insert_entry string_cmp (built_response self).headers.entries name (header_reference reference))
             × (built_response b ≡ record (built_response self) { headers = headers })) }
     {
         put(&mut self.response.headers, name, RefOr::Ref(reference)).and(Ok(self))
@@ -356,7 +360,8 @@ impl Responses {
     ) -> Result<Responses, AllocError>
         requires can { I.can_next pairs }
         requires ends { IsFinite (I.remaining pairs) }
-        ensures { IfOk result (λ made. (given : Pairs (RefOr Response)) × Drains I.next_gives pairs given × AreResponses (put_each given []) made) }
+        ensures { IfOk result (λ made. (given : Pairs (RefOr Response)) × Drains I.next_gives pairs given
+            × AreResponses (put_each given []) made) }
     {
         let mut responses = BTreeMap::new(alloc);
         put_each(&mut responses, pairs)?;
@@ -463,7 +468,8 @@ impl ResponsesBuilder {
     ) -> Result<ResponsesBuilder, AllocError>
         requires can { I.can_next responses }
         requires ends { IsFinite (I.remaining responses) }
-        ensures { IfOk result (λ b. (given : Pairs (RefOr Response)) × (held : ByStatus) × Drains I.next_gives responses given
+        ensures { IfOk result (λ b. (given : Pairs (RefOr Response)) × (held : ByStatus)
+            × Drains I.next_gives responses given
             × (held.entries ≡ put_each given (built_responses self).responses.entries)
             × (built_responses b ≡ record (built_responses self) { responses = held })) }
     {

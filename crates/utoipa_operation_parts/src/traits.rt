@@ -26,7 +26,8 @@ pub trait IntoParams {
         parameter_in_provider: F,
     ) -> Result<Vec<Parameter>, AllocError>
         requires { F.IsAlwaysCallable parameter_in_provider }
-        ensures { IfOk result (λ made. ArePlaced (λ place. FnReturns F.Fn parameter_in_provider tt place) described (map parameter_doc made.items)) };
+        ensures { IfOk result (λ made. ArePlaced
+            (λ place. FnReturns F.Fn parameter_in_provider tt place) described (map parameter_doc made.items)) };
 }
 
 /// A type whose values are answered as one response, which has a name under which it stands among the components of a document.

@@ -171,7 +171,8 @@ fn combination_from(
 ) -> Result<Outcome, AllocError>
     requires found { data_of members.now ≡ members_of (view tree.now) }
     requires inside { AreCombinations (data_of members.now) outcomes }
-    ensures read { IfOk result (λ o. MatchOption o (IsNoCombination (view tree.now)) (λ place. outcome_doc (Some place) ≡ option_map own_doc (read schema (view tree.now)))) }
+    ensures read { IfOk result (λ o. MatchOption o (IsNoCombination (view tree.now))
+        (λ place. outcome_doc (Some place) ≡ option_map own_doc (read schema (view tree.now)))) }
     ensures counted { IfOk result (λ o. count_of (outcome_doc o) ≤ 1 + counts_of_combinations outcomes) }
 {
     if !members.has_combination() {
@@ -191,7 +192,8 @@ fn first_combination_from(
 ) -> Result<Outcome, AllocError>
     requires found { data_of members.now ≡ members_of (view tree.now) }
     requires inside { AreCombinations (data_of members.now) outcomes }
-    ensures read { IfOk result (λ o. MatchOption o (IsNoCombination (view tree.now)) (λ place. outcome_doc (Some place) ≡ option_map own_doc (read schema (view tree.now)))) }
+    ensures read { IfOk result (λ o. MatchOption o (IsNoCombination (view tree.now))
+        (λ place. outcome_doc (Some place) ≡ option_map own_doc (read schema (view tree.now)))) }
     ensures counted { IfOk result (λ o. count_of (outcome_doc o) ≤ 1 + counts_of_combinations outcomes) }
 {
     let CombinationOutcomes {

@@ -57,7 +57,8 @@ pub(crate) fn assemble_one_of(
     tree: &Value,
     items: Vec<RefOr<Schema>>,
 ) -> Result<OneOf, ReadFault>
-    ensures ok { IfOk result (λ o. field (row (codes "oneOf") required (list_of (ref_or schema))) (view tree.now) ≡ Some (places_doc schema_doc items)
+    ensures ok { IfOk result (λ o. field (row (codes "oneOf") required (list_of (ref_or schema))) (view tree.now)
+        ≡ Some (places_doc schema_doc items)
         → read (named one_of_schema) (view tree.now) ≡ Some (one_of_doc o)) }
     ensures err { IfErr result (Refuses (read (named one_of_schema) (view tree.now))) }
     ensures kept { IfOk result (λ o. o.items ≡ items) }
@@ -80,7 +81,8 @@ pub(crate) fn assemble_all_of(
     tree: &Value,
     items: Vec<RefOr<Schema>>,
 ) -> Result<AllOf, ReadFault>
-    ensures ok { IfOk result (λ o. field (row (codes "allOf") required (list_of (ref_or schema))) (view tree.now) ≡ Some (places_doc schema_doc items)
+    ensures ok { IfOk result (λ o. field (row (codes "allOf") required (list_of (ref_or schema))) (view tree.now)
+        ≡ Some (places_doc schema_doc items)
         → read (named all_of_schema) (view tree.now) ≡ Some (all_of_doc o)) }
     ensures err { IfErr result (Refuses (read (named all_of_schema) (view tree.now))) }
     ensures kept { IfOk result (λ o. o.items ≡ items) }
@@ -101,7 +103,8 @@ pub(crate) fn assemble_any_of(
     tree: &Value,
     items: Vec<RefOr<Schema>>,
 ) -> Result<AnyOf, ReadFault>
-    ensures ok { IfOk result (λ o. field (row (codes "anyOf") required (list_of (ref_or schema))) (view tree.now) ≡ Some (places_doc schema_doc items)
+    ensures ok { IfOk result (λ o. field (row (codes "anyOf") required (list_of (ref_or schema))) (view tree.now)
+        ≡ Some (places_doc schema_doc items)
         → read (named any_of_schema) (view tree.now) ≡ Some (any_of_doc o)) }
     ensures err { IfErr result (Refuses (read (named any_of_schema) (view tree.now))) }
     ensures kept { IfOk result (λ o. o.items ≡ items) }
@@ -126,7 +129,8 @@ pub(crate) fn assemble_array(
 ) -> Result<Array, ReadFault>
     ensures ok { IfOk result (λ a. (content : ContentSchema) → HasContent (view tree.now) content
         → field (row (codes "items") required array_items) (view tree.now) ≡ Some (array_items_doc items)
-        → field (row (codes "prefixItems") defaulted (list_of schema)) (view tree.now) ≡ Some (list_of_docs schema_doc prefix_items)
+        → field (row (codes "prefixItems") defaulted (list_of schema)) (view tree.now)
+        ≡ Some (list_of_docs schema_doc prefix_items)
         → read (named array_schema) (view tree.now) ≡ Some (array_doc (record a { content_schema = content }))) }
     ensures err { IfErr result (Refuses (read (named array_schema) (view tree.now))) }
     ensures kept { IfOk result (λ a. (a.items ≡ items) × (a.prefix_items ≡ prefix_items) × (a.content_schema ≡ None)) }
@@ -152,9 +156,12 @@ pub(crate) fn assemble_object(
     property_names: Option<Box<Schema>>,
 ) -> Result<Object, ReadFault>
     ensures ok { IfOk result (λ o. (content : ContentSchema) → HasContent (view tree.now) content
-        → field (row (codes "properties") defaulted (map_of (ref_or schema))) (view tree.now) ≡ Some (map_of_docs (ref_or_doc schema schema_doc) properties)
-        → field (row (codes "additionalProperties") optional additional_kind) (view tree.now) ≡ Some (option_of (boxed (additional_properties_doc schema_doc)) additional_properties)
-        → field (row (codes "propertyNames") optional schema) (view tree.now) ≡ Some (option_of (boxed schema_doc) property_names)
+        → field (row (codes "properties") defaulted (map_of (ref_or schema))) (view tree.now)
+        ≡ Some (map_of_docs (ref_or_doc schema schema_doc) properties)
+        → field (row (codes "additionalProperties") optional additional_kind) (view tree.now)
+        ≡ Some (option_of (boxed (additional_properties_doc schema_doc)) additional_properties)
+        → field (row (codes "propertyNames") optional schema) (view tree.now)
+        ≡ Some (option_of (boxed schema_doc) property_names)
         → read (named object_schema) (view tree.now) ≡ Some (object_doc (record o { content_schema = content }))) }
     ensures err { IfErr result (Refuses (read (named object_schema) (view tree.now))) }
     ensures kept { IfOk result (λ o. (o.properties ≡ properties) × (o.additional_properties ≡ additional_properties)

@@ -82,7 +82,8 @@ fn emit_additional<'a, S: JsonSink>(
     out: &mut S,
     pending: PendingExtensions<'a>,
 ) -> Result<PendingExtensions<'a>, AllocError>
-    ensures { IfOk result (λ left. SentAmong S.adds (row_member (row (codes "additionalProperties") optional additional_properties)
+    ensures { IfOk result (λ left. SentAmong S.adds
+        (row_member (row (codes "additionalProperties") optional additional_properties)
         (option_of (boxed (additional_properties_doc schema_doc)) object.now.additional_properties))
         (pending_view pending.entry) (pending_view left) out.old out.new) }
 {

@@ -26,7 +26,8 @@ pub(crate) fn read_places(
     ensures read { IfOk result (λ filled. all_outcomes filled.items ≡ grouped (places roots.entry.items)) }
     ensures grows { readings.old ≤ readings.new }
     ensures at_most { readings.new ≤ readings.old + total (places roots.entry.items) }
-    ensures at_least { IfOk result (λ filled. readings.new < u64.MAX → readings.old + counts (all_outcomes filled.items) ≤ readings.new) }
+    ensures at_least { IfOk result (λ filled. readings.new < u64.MAX
+        → readings.old + counts (all_outcomes filled.items) ≤ readings.new) }
 {
     let table = walk(alloc, roots)?;
     fill(alloc, table, readings)
@@ -40,10 +41,12 @@ fn fill(
     readings: &mut Readings,
 ) -> Result<Vec<Group>, AllocError>
     requires walked { (roots : List Place) × Walked roots (places table.items) [] }
-    ensures read { IfOk result (λ filled. (roots : List Place) → Walked roots (places table.entry.items) [] → all_outcomes filled.items ≡ grouped roots) }
+    ensures read { IfOk result (λ filled. (roots : List Place) → Walked roots (places table.entry.items) []
+        → all_outcomes filled.items ≡ grouped roots) }
     ensures grows { readings.old ≤ readings.new }
     ensures at_most { readings.new ≤ readings.old + length table.entry.items }
-    ensures at_least { IfOk result (λ filled. readings.new < u64.MAX → readings.old + counts (all_outcomes filled.items) ≤ readings.new) }
+    ensures at_least { IfOk result (λ filled. readings.new < u64.MAX
+        → readings.old + counts (all_outcomes filled.items) ≤ readings.new) }
 {
     let mut filled = Vec::new(alloc);
     'fill: while let Some(place) = table.pop() {

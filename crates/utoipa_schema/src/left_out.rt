@@ -34,7 +34,8 @@ impl<'v, T: Emit + Omit> LeaveOut for DefaultedValue<'v, T> {
 pub(crate) trait LeaveOutRows: EmitRows {
     /// Whether no member is sent where their object is sent.
     fn are_left_out(&self) -> bool
-        ensures { result ≡ true → (names : List (List ℕ)) → row_members (Self.docs self.now) (Self.rows names) ≡ no_members };
+        ensures { result ≡ true → (names : List (List ℕ))
+            → row_members (Self.docs self.now) (Self.rows names) ≡ no_members };
 }
 
 impl LeaveOutRows for () {

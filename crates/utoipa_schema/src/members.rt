@@ -33,7 +33,8 @@ fn own_schema(outcome: Outcome) -> Option<Schema>
 
 /// The schemas of a list, where each of its places holds one. Fails with `Alternative` where one does not.
 fn all_schemas(alloc: Global, places: Vec<RefOr<Schema>>) -> Result<Vec<Schema>, ReadFault>
-    ensures { Fits (list_of_own (map (ref_or_doc schema schema_doc) places.items)) (list_of_docs schema_doc) result (count_of_list (list_docs (Some places))) }
+    ensures { Fits (list_of_own (map (ref_or_doc schema schema_doc) places.items)) (list_of_docs schema_doc) result
+        (count_of_list (list_docs (Some places))) }
 {
     let mut list = Vec::new(alloc);
     for place in places {
@@ -47,7 +48,8 @@ fn all_schemas(alloc: Global, places: Vec<RefOr<Schema>>) -> Result<Vec<Schema>,
 
 /// The one place that there is. Fails with `Alternative` where it fits nothing, and where there is none.
 pub(crate) fn only_place(outcome: Outcome) -> Result<Box<RefOr<Schema>>, ReadFault>
-    ensures { Fits (outcome_doc outcome) (boxed (ref_or_doc schema schema_doc)) result (count_of (outcome_doc outcome)) }
+    ensures { Fits (outcome_doc outcome) (boxed (ref_or_doc schema schema_doc)) result
+        (count_of (outcome_doc outcome)) }
 {
     match outcome {
         Some(place) => Ok(place),
@@ -71,7 +73,8 @@ pub(crate) fn places_in_list(
     outcome: ListOutcome,
 ) -> Result<Vec<RefOr<Schema>>, ReadFault>
     requires { list_docs outcome ≡ all_docs (elements true (view tree.now)) }
-    ensures { Fits (read (list_of (ref_or schema)) (view tree.now)) (places_doc schema_doc) result (count_of_list (list_docs outcome)) }
+    ensures { Fits (read (list_of (ref_or schema)) (view tree.now)) (places_doc schema_doc) result
+        (count_of_list (list_docs outcome)) }
 {
     let Some(_list) = tree.as_array() else {
         return Err(ReadFault::Kind("list"));
@@ -89,7 +92,8 @@ fn schemas_in_list(
     outcome: ListOutcome,
 ) -> Result<Vec<Schema>, ReadFault>
     requires { list_docs outcome ≡ all_docs (elements false (view tree.now)) }
-    ensures { Fits (read (list_of schema) (view tree.now)) (list_of_docs schema_doc) result (count_of_list (list_docs outcome)) }
+    ensures { Fits (read (list_of schema) (view tree.now)) (list_of_docs schema_doc) result
+        (count_of_list (list_docs outcome)) }
 {
     let Some(_list) = tree.as_array() else {
         return Err(ReadFault::Kind("list"));
@@ -106,7 +110,8 @@ pub(crate) fn places_by_name(
     outcome: MapOutcome,
 ) -> Result<BTreeMap<String, RefOr<Schema>>, ReadFault>
     requires { map_docs outcome ≡ all_entries (entries true (view tree.now)) }
-    ensures { Fits (read (map_of (ref_or schema)) (view tree.now)) (map_of_docs (ref_or_doc schema schema_doc)) result (count_of_map (map_docs outcome)) }
+    ensures { Fits (read (map_of (ref_or schema)) (view tree.now)) (map_of_docs (ref_or_doc schema schema_doc)) result
+        (count_of_map (map_docs outcome)) }
 {
     let Some(_members) = tree.as_object() else {
         return Err(ReadFault::Kind("map"));
@@ -136,7 +141,8 @@ pub(crate) fn additional_from(
     outcome: Outcome,
 ) -> Result<AdditionalProperties<Schema>, ReadFault>
     requires { outcome_doc outcome ≡ last (alone true (view tree.now)) }
-    ensures { Fits (read additional_kind (view tree.now)) (additional_properties_doc schema_doc) result (count_of (outcome_doc outcome)) }
+    ensures { Fits (read additional_kind (view tree.now)) (additional_properties_doc schema_doc) result
+        (count_of (outcome_doc outcome)) }
 {
     match tree.as_bool() {
         Some(free) => Ok(AdditionalProperties::FreeForm(free)),
@@ -154,7 +160,9 @@ pub(crate) fn combined_from(
     outcome: ListOutcome,
 ) -> Result<Vec<RefOr<Schema>>, ReadFault>
     requires { list_docs outcome ≡ all_docs (part (elements true) (found member)) }
-    ensures { (d : Data) → found member.entry ≡ get name.now d → Fits (field (row name.now required (list_of (ref_or schema))) d) (places_doc schema_doc) result (count_of_list (list_docs outcome)) }
+    ensures { (d : Data) → found member.entry ≡ get name.now d
+        → Fits (field (row name.now required (list_of (ref_or schema))) d) (places_doc schema_doc) result
+        (count_of_list (list_docs outcome)) }
 {
     match member {
         Some(member) => places_in_list(member, outcome),
@@ -168,7 +176,9 @@ pub(crate) fn array_items_from(
     outcome: Outcome,
 ) -> Result<ArrayItems, ReadFault>
     requires { outcome_doc outcome ≡ last (part (alone true) (found member)) }
-    ensures { (d : Data) → found member.entry ≡ get (codes "items") d → Fits (field (row (codes "items") required array_items) d) array_items_doc result (count_of (outcome_doc outcome)) }
+    ensures { (d : Data) → found member.entry ≡ get (codes "items") d
+        → Fits (field (row (codes "items") required array_items) d) array_items_doc result
+        (count_of (outcome_doc outcome)) }
 {
     match member {
         Some(member) => items_from(member, outcome),
@@ -183,7 +193,9 @@ pub(crate) fn prefix_items_from(
     outcome: ListOutcome,
 ) -> Result<Vec<Schema>, ReadFault>
     requires { list_docs outcome ≡ all_docs (part (elements false) (found member)) }
-    ensures { (d : Data) → found member.entry ≡ get (codes "prefixItems") d → Fits (field (row (codes "prefixItems") defaulted (list_of schema)) d) (list_of_docs schema_doc) result (count_of_list (list_docs outcome)) }
+    ensures { (d : Data) → found member.entry ≡ get (codes "prefixItems") d
+        → Fits (field (row (codes "prefixItems") defaulted (list_of schema)) d) (list_of_docs schema_doc) result
+        (count_of_list (list_docs outcome)) }
 {
     match member {
         Some(member) => schemas_in_list(alloc, member, outcome),
@@ -198,7 +210,9 @@ pub(crate) fn properties_from(
     outcome: MapOutcome,
 ) -> Result<BTreeMap<String, RefOr<Schema>>, ReadFault>
     requires { map_docs outcome ≡ all_entries (part (entries true) (found member)) }
-    ensures { (d : Data) → found member.entry ≡ get (codes "properties") d → Fits (field (row (codes "properties") defaulted (map_of (ref_or schema))) d) (map_of_docs (ref_or_doc schema schema_doc)) result (count_of_map (map_docs outcome)) }
+    ensures { (d : Data) → found member.entry ≡ get (codes "properties") d
+        → Fits (field (row (codes "properties") defaulted (map_of (ref_or schema))) d)
+        (map_of_docs (ref_or_doc schema schema_doc)) result (count_of_map (map_docs outcome)) }
 {
     match member {
         Some(member) => places_by_name(member, outcome),
@@ -213,7 +227,9 @@ pub(crate) fn additional_properties_from(
     outcome: Outcome,
 ) -> Result<Option<Box<AdditionalProperties<Schema>>>, ReadFault>
     requires { outcome_doc outcome ≡ last (part (alone true) (found member)) }
-    ensures { (d : Data) → found member.entry ≡ get (codes "additionalProperties") d → Fits (field (row (codes "additionalProperties") optional additional_kind) d) (option_of (boxed (additional_properties_doc schema_doc))) result (count_of (outcome_doc outcome)) }
+    ensures { (d : Data) → found member.entry ≡ get (codes "additionalProperties") d
+        → Fits (field (row (codes "additionalProperties") optional additional_kind) d)
+        (option_of (boxed (additional_properties_doc schema_doc))) result (count_of (outcome_doc outcome)) }
 {
     match member {
         Some(member) => {
@@ -234,7 +250,9 @@ pub(crate) fn property_names_from(
     outcome: Outcome,
 ) -> Result<Option<Box<Schema>>, ReadFault>
     requires { outcome_doc outcome ≡ last (part (alone false) (found member)) }
-    ensures { (d : Data) → found member.entry ≡ get (codes "propertyNames") d → Fits (field (row (codes "propertyNames") optional schema) d) (option_of (boxed schema_doc)) result (count_of (outcome_doc outcome)) }
+    ensures { (d : Data) → found member.entry ≡ get (codes "propertyNames") d
+        → Fits (field (row (codes "propertyNames") optional schema) d) (option_of (boxed schema_doc)) result
+        (count_of (outcome_doc outcome)) }
 {
     match member {
         Some(member) => {
@@ -254,7 +272,9 @@ pub(crate) fn content_schema_from(
     outcome: Outcome,
 ) -> Result<Option<Box<RefOr<Schema>>>, ReadFault>
     requires { outcome_doc outcome ≡ last (part (alone true) (found member)) }
-    ensures { (d : Data) → found member.entry ≡ get (codes "contentSchema") d → Fits (field (row (codes "contentSchema") optional (ref_or schema)) d) content_schema_doc result (count_of (outcome_doc outcome)) }
+    ensures { (d : Data) → found member.entry ≡ get (codes "contentSchema") d
+        → Fits (field (row (codes "contentSchema") optional (ref_or schema)) d) content_schema_doc result
+        (count_of (outcome_doc outcome)) }
 {
     match member {
         Some(member) => {

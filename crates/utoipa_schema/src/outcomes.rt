@@ -129,7 +129,8 @@ impl Group {
 
     /// With one place more under its name, if it is a map. Fails where memory runs out.
     fn with_named(self, name: &String, outcome: Outcome) -> Result<Group, AllocError>
-        ensures { IfOk result (λ group. outcomes_of group ≡ add_entry (string_bytes name.now) (outcome_doc outcome) (outcomes_of self)) }
+        ensures { IfOk result (λ group. outcomes_of group
+            ≡ add_entry (string_bytes name.now) (outcome_doc outcome) (outcomes_of self)) }
     {
         match self {
             Group::Map(map) => Ok(Group::Map(with_entry(map, name, outcome)?)),
@@ -152,7 +153,8 @@ fn with_element(list: ListOutcome, outcome: Outcome) -> Result<ListOutcome, Allo
 
 /// One place more of a map. Fails where memory runs out.
 fn with_entry(map: MapOutcome, name: &String, outcome: Outcome) -> Result<MapOutcome, AllocError>
-    ensures { IfOk result (λ o. of_map (map_docs o) ≡ add_entry (string_bytes name.now) (outcome_doc outcome) (of_map (map_docs map))) }
+    ensures { IfOk result (λ o. of_map (map_docs o)
+        ≡ add_entry (string_bytes name.now) (outcome_doc outcome) (of_map (map_docs map))) }
 {
     let (Some(mut map), Some(place)) = (map, outcome) else {
         return Ok(None);
@@ -169,7 +171,8 @@ pub(crate) fn put(
     standing: Standing<'_>,
     outcome: Outcome,
 ) -> Result<(), AllocError>
-    ensures { OnOk result (all_outcomes filled.new.items ≡ put_outcome (all_outcomes filled.old.items) (stands_as standing.entry) (outcome_doc outcome)) }
+    ensures { OnOk result (all_outcomes filled.new.items
+        ≡ put_outcome (all_outcomes filled.old.items) (stands_as standing.entry) (outcome_doc outcome)) }
 {
     match standing {
         Standing::Alone => Ok(filled.push(Group::One(outcome))?),
@@ -190,7 +193,8 @@ pub(crate) fn put(
 
 /// Puts an element that has been read to those before it. Fails where memory runs out.
 fn put_element(filled: &mut Vec<Group>, outcome: Outcome) -> Result<(), AllocError>
-    ensures { OnOk result (all_outcomes filled.new.items ≡ with_last (add_place (outcome_doc outcome)) (all_outcomes filled.old.items)) }
+    ensures { OnOk result (all_outcomes filled.new.items
+        ≡ with_last (add_place (outcome_doc outcome)) (all_outcomes filled.old.items)) }
 {
     match filled.pop() {
         Some(group) => {
@@ -203,7 +207,8 @@ fn put_element(filled: &mut Vec<Group>, outcome: Outcome) -> Result<(), AllocErr
 
 /// Puts a value of a map that has been read to those before it. Fails where memory runs out.
 fn put_entry(filled: &mut Vec<Group>, name: &String, outcome: Outcome) -> Result<(), AllocError>
-    ensures { OnOk result (all_outcomes filled.new.items ≡ with_last (add_entry (string_bytes name.now) (outcome_doc outcome)) (all_outcomes filled.old.items)) }
+    ensures { OnOk result (all_outcomes filled.new.items
+        ≡ with_last (add_entry (string_bytes name.now) (outcome_doc outcome)) (all_outcomes filled.old.items)) }
 {
     match filled.pop() {
         Some(group) => {
@@ -216,8 +221,10 @@ fn put_entry(filled: &mut Vec<Group>, name: &String, outcome: Outcome) -> Result
 
 /// Takes off the last outcome, which is that of one place.
 pub(crate) fn take_last(filled: &mut Vec<Group>) -> Outcome
-    ensures read { (b : Bool) (d : Data) → Takes filled.old.items filled.new.items (place_at b by_itself d ∷ []) (outcome_doc result ≡ read_by b d) }
-    ensures counted { counts (all_outcomes filled.new.items) + count_of (outcome_doc result) ≤ counts (all_outcomes filled.old.items) }
+    ensures read { (b : Bool) (d : Data)
+        → Takes filled.old.items filled.new.items (place_at b by_itself d ∷ []) (outcome_doc result ≡ read_by b d) }
+    ensures counted { counts (all_outcomes filled.new.items) + count_of (outcome_doc result)
+        ≤ counts (all_outcomes filled.old.items) }
 {
     match filled.pop() {
         Some(group) => group.into_place(),
@@ -227,8 +234,11 @@ pub(crate) fn take_last(filled: &mut Vec<Group>) -> Outcome
 
 /// Takes off the outcome of a member that is one place.
 pub(crate) fn take_alone(tree: &Value, filled: &mut Vec<Group>) -> Outcome
-    ensures read { (b : Bool) → Takes filled.old.items filled.new.items (alone b (view tree.now)) (outcome_doc result ≡ last (alone b (view tree.now))) }
-    ensures counted { counts (all_outcomes filled.new.items) + count_of (outcome_doc result) ≤ counts (all_outcomes filled.old.items) }
+    ensures read { (b : Bool)
+        → Takes filled.old.items filled.new.items (alone b (view tree.now))
+        (outcome_doc result ≡ last (alone b (view tree.now))) }
+    ensures counted { counts (all_outcomes filled.new.items) + count_of (outcome_doc result)
+        ≤ counts (all_outcomes filled.old.items) }
 {
     if tree.is_null() || tree.is_boolean() {
         None
@@ -260,8 +270,11 @@ fn count_entries(tree: &Value) -> usize
 
 /// Takes off the outcomes of a member that is a list of places.
 pub(crate) fn take_elements(alloc: Global, tree: &Value, filled: &mut Vec<Group>) -> ListOutcome
-    ensures read { (b : Bool) → Takes filled.old.items filled.new.items (elements b (view tree.now)) (list_docs result ≡ all_docs (elements b (view tree.now))) }
-    ensures counted { counts (all_outcomes filled.new.items) + count_of_list (list_docs result) ≤ counts (all_outcomes filled.old.items) }
+    ensures read { (b : Bool)
+        → Takes filled.old.items filled.new.items (elements b (view tree.now))
+        (list_docs result ≡ all_docs (elements b (view tree.now))) }
+    ensures counted { counts (all_outcomes filled.new.items) + count_of_list (list_docs result)
+        ≤ counts (all_outcomes filled.old.items) }
 {
     if count_elements(tree) == 0 {
         return Some(Vec::new(alloc));
@@ -274,8 +287,11 @@ pub(crate) fn take_elements(alloc: Global, tree: &Value, filled: &mut Vec<Group>
 
 /// Takes off the outcomes of a member that is a map of places.
 pub(crate) fn take_entries(alloc: Global, tree: &Value, filled: &mut Vec<Group>) -> MapOutcome
-    ensures read { (b : Bool) → Takes filled.old.items filled.new.items (entries b (view tree.now)) (map_docs result ≡ all_entries (entries b (view tree.now))) }
-    ensures counted { counts (all_outcomes filled.new.items) + count_of_map (map_docs result) ≤ counts (all_outcomes filled.old.items) }
+    ensures read { (b : Bool)
+        → Takes filled.old.items filled.new.items (entries b (view tree.now))
+        (map_docs result ≡ all_entries (entries b (view tree.now))) }
+    ensures counted { counts (all_outcomes filled.new.items) + count_of_map (map_docs result)
+        ≤ counts (all_outcomes filled.old.items) }
 {
     if count_entries(tree) == 0 {
         return Some(BTreeMap::new(alloc));
@@ -288,8 +304,11 @@ pub(crate) fn take_entries(alloc: Global, tree: &Value, filled: &mut Vec<Group>)
 
 /// Takes off the outcome of a member, if it is there, that is one place.
 pub(crate) fn take_one(member: Option<&Value>, filled: &mut Vec<Group>) -> Outcome
-    ensures read { (b : Bool) → Takes filled.old.items filled.new.items (part (alone b) (found member.entry)) (outcome_doc result ≡ last (part (alone b) (found member.entry))) }
-    ensures counted { counts (all_outcomes filled.new.items) + count_of (outcome_doc result) ≤ counts (all_outcomes filled.old.items) }
+    ensures read { (b : Bool)
+        → Takes filled.old.items filled.new.items (part (alone b) (found member.entry))
+        (outcome_doc result ≡ last (part (alone b) (found member.entry))) }
+    ensures counted { counts (all_outcomes filled.new.items) + count_of (outcome_doc result)
+        ≤ counts (all_outcomes filled.old.items) }
 {
     match member {
         Some(member) => take_alone(member, filled),
@@ -303,8 +322,11 @@ pub(crate) fn take_list(
     member: Option<&Value>,
     filled: &mut Vec<Group>,
 ) -> ListOutcome
-    ensures read { (b : Bool) → Takes filled.old.items filled.new.items (part (elements b) (found member.entry)) (list_docs result ≡ all_docs (part (elements b) (found member.entry))) }
-    ensures counted { counts (all_outcomes filled.new.items) + count_of_list (list_docs result) ≤ counts (all_outcomes filled.old.items) }
+    ensures read { (b : Bool)
+        → Takes filled.old.items filled.new.items (part (elements b) (found member.entry))
+        (list_docs result ≡ all_docs (part (elements b) (found member.entry))) }
+    ensures counted { counts (all_outcomes filled.new.items) + count_of_list (list_docs result)
+        ≤ counts (all_outcomes filled.old.items) }
 {
     match member {
         Some(member) => take_elements(alloc, member, filled),
@@ -314,8 +336,11 @@ pub(crate) fn take_list(
 
 /// Takes off the outcomes of a member, if it is there, that is a map of places.
 fn take_map(alloc: Global, member: Option<&Value>, filled: &mut Vec<Group>) -> MapOutcome
-    ensures read { (b : Bool) → Takes filled.old.items filled.new.items (part (entries b) (found member.entry)) (map_docs result ≡ all_entries (part (entries b) (found member.entry))) }
-    ensures counted { counts (all_outcomes filled.new.items) + count_of_map (map_docs result) ≤ counts (all_outcomes filled.old.items) }
+    ensures read { (b : Bool)
+        → Takes filled.old.items filled.new.items (part (entries b) (found member.entry))
+        (map_docs result ≡ all_entries (part (entries b) (found member.entry))) }
+    ensures counted { counts (all_outcomes filled.new.items) + count_of_map (map_docs result)
+        ≤ counts (all_outcomes filled.old.items) }
 {
     match member {
         Some(member) => take_entries(alloc, member, filled),
@@ -329,8 +354,10 @@ fn take_combinations(
     members: &InnerMembers<'_>,
     filled: &mut Vec<Group>,
 ) -> CombinationOutcomes
-    ensures read { Takes filled.old.items filled.new.items (of_combinations (data_of members.now)) (AreCombinations (data_of members.now) result) }
-    ensures counted { counts (all_outcomes filled.new.items) + counts_of_combinations result ≤ counts (all_outcomes filled.old.items) }
+    ensures read { Takes filled.old.items filled.new.items (of_combinations (data_of members.now))
+        (AreCombinations (data_of members.now) result) }
+    ensures counted { counts (all_outcomes filled.new.items) + counts_of_combinations result
+        ≤ counts (all_outcomes filled.old.items) }
 {
     let any_of = take_list(alloc, members.any_of, filled);
     let all_of = take_list(alloc, members.all_of, filled);
@@ -348,8 +375,10 @@ pub(crate) fn take_of_array(
     members: &InnerMembers<'_>,
     filled: &mut Vec<Group>,
 ) -> ArrayOutcomes
-    ensures read { Takes filled.old.items filled.new.items (of_array (data_of members.now)) (AreOfArray (data_of members.now) result) }
-    ensures counted { counts (all_outcomes filled.new.items) + counts_of_array result ≤ counts (all_outcomes filled.old.items) }
+    ensures read { Takes filled.old.items filled.new.items (of_array (data_of members.now))
+        (AreOfArray (data_of members.now) result) }
+    ensures counted { counts (all_outcomes filled.new.items) + counts_of_array result
+        ≤ counts (all_outcomes filled.old.items) }
 {
     let prefix_items = take_list(alloc, members.prefix_items, filled);
     let items = take_one(members.items, filled);
@@ -365,8 +394,10 @@ pub(crate) fn take_of_object(
     members: &InnerMembers<'_>,
     filled: &mut Vec<Group>,
 ) -> ObjectOutcomes
-    ensures read { Takes filled.old.items filled.new.items (of_object (data_of members.now)) (AreOfObject (data_of members.now) result) }
-    ensures counted { counts (all_outcomes filled.new.items) + counts_of_object result ≤ counts (all_outcomes filled.old.items) }
+    ensures read { Takes filled.old.items filled.new.items (of_object (data_of members.now))
+        (AreOfObject (data_of members.now) result) }
+    ensures counted { counts (all_outcomes filled.new.items) + counts_of_object result
+        ≤ counts (all_outcomes filled.old.items) }
 {
     let property_names = take_one(members.property_names, filled);
     let additional_properties = take_one(members.additional_properties, filled);
@@ -384,8 +415,10 @@ pub(crate) fn take_inner(
     members: &InnerMembers<'_>,
     filled: &mut Vec<Group>,
 ) -> InnerOutcomes
-    ensures read { Takes filled.old.items filled.new.items (of_each (data_of members.now)) (AreInner (data_of members.now) result) }
-    ensures counted { counts (all_outcomes filled.new.items) + counts_of_inner result ≤ counts (all_outcomes filled.old.items) }
+    ensures read { Takes filled.old.items filled.new.items (of_each (data_of members.now))
+        (AreInner (data_of members.now) result) }
+    ensures counted { counts (all_outcomes filled.new.items) + counts_of_inner result
+        ≤ counts (all_outcomes filled.old.items) }
 {
     let content_schema = take_one(members.content_schema, filled);
     let object = take_of_object(alloc, members, filled);

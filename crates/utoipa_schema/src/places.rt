@@ -42,7 +42,8 @@ pub(crate) fn push_elements<'a>(
     tree: &'a Value,
     may_be_reference: bool,
 ) -> Result<(), AllocError>
-    ensures { OnOk result (places stack.new.items ≡ places stack.old.items ++ elements may_be_reference (view tree.now)) }
+    ensures { OnOk result (places stack.new.items
+        ≡ places stack.old.items ++ elements may_be_reference (view tree.now)) }
 {
     if let Some(list) = tree.as_array() {
         if let Some((first, others)) = list.split_first() {
@@ -69,7 +70,8 @@ pub(crate) fn push_entries<'a>(
     tree: &'a Value,
     may_be_reference: bool,
 ) -> Result<(), AllocError>
-    ensures { OnOk result (places stack.new.items ≡ places stack.old.items ++ entries may_be_reference (view tree.now)) }
+    ensures { OnOk result (places stack.new.items
+        ≡ places stack.old.items ++ entries may_be_reference (view tree.now)) }
 {
     if let Some(map) = tree.as_object() {
         let mut entries = map.iter();
@@ -116,7 +118,8 @@ pub(crate) fn push_list<'a>(
     member: Option<&'a Value>,
     may_be_reference: bool,
 ) -> Result<(), AllocError>
-    ensures { OnOk result (places stack.new.items ≡ places stack.old.items ++ part (elements may_be_reference) (found member.entry)) }
+    ensures { OnOk result (places stack.new.items
+        ≡ places stack.old.items ++ part (elements may_be_reference) (found member.entry)) }
 {
     match member {
         Some(member) => push_elements(stack, member, may_be_reference),
@@ -130,7 +133,8 @@ pub(crate) fn push_map<'a>(
     member: Option<&'a Value>,
     may_be_reference: bool,
 ) -> Result<(), AllocError>
-    ensures { OnOk result (places stack.new.items ≡ places stack.old.items ++ part (entries may_be_reference) (found member.entry)) }
+    ensures { OnOk result (places stack.new.items
+        ≡ places stack.old.items ++ part (entries may_be_reference) (found member.entry)) }
 {
     match member {
         Some(member) => push_entries(stack, member, may_be_reference),
@@ -144,7 +148,8 @@ pub(crate) fn push_one<'a>(
     member: Option<&'a Value>,
     may_be_reference: bool,
 ) -> Result<(), AllocError>
-    ensures { OnOk result (places stack.new.items ≡ places stack.old.items ++ part (alone may_be_reference) (found member.entry)) }
+    ensures { OnOk result (places stack.new.items
+        ≡ places stack.old.items ++ part (alone may_be_reference) (found member.entry)) }
 {
     match member {
         Some(member) => push_alone(stack, member, may_be_reference),

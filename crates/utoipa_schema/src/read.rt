@@ -46,7 +46,8 @@ pub(crate) fn read_schema(
     tree: &Value,
     readings: &mut Readings,
 ) -> Result<Schema, ReadFault>
-    ensures { Reads (read schema (view tree.now)) schema_doc result readings.old readings.new (values (view tree.now)) }
+    ensures { Reads (read schema (view tree.now)) schema_doc result readings.old readings.new
+        (values (view tree.now)) }
 {
     let mut roots = Vec::new(alloc);
     roots.push(SchemaPlace {
@@ -135,7 +136,8 @@ pub(crate) fn read_array(
     tree: &Value,
     readings: &mut Readings,
 ) -> Result<Array, ReadFault>
-    ensures { Reads (read (named array_schema) (view tree.now)) array_doc result readings.old readings.new (values (view tree.now)) }
+    ensures { Reads (read (named array_schema) (view tree.now)) array_doc result readings.old readings.new
+        (values (view tree.now)) }
 {
     let members = find_members(tree);
     let mut roots = Vec::new(alloc);
@@ -153,7 +155,8 @@ fn whole_array_from(
     mut filled: Vec<Group>,
 ) -> Result<Array, ReadFault>
     requires found { data_of members.now ≡ members_of (view tree.now) }
-    requires filled { all_outcomes filled.items ≡ grouped (of_array (data_of members.now) ++ of_content (data_of members.now)) }
+    requires filled { all_outcomes filled.items
+        ≡ grouped (of_array (data_of members.now) ++ of_content (data_of members.now)) }
     ensures { Fits (read (named array_schema) (view tree.now)) array_doc result (counts (all_outcomes filled.items)) }
 {
     let in_content = take_one(members.content_schema, &mut filled);
@@ -169,7 +172,8 @@ pub(crate) fn read_object(
     tree: &Value,
     readings: &mut Readings,
 ) -> Result<Object, ReadFault>
-    ensures { Reads (read (named object_schema) (view tree.now)) object_doc result readings.old readings.new (values (view tree.now)) }
+    ensures { Reads (read (named object_schema) (view tree.now)) object_doc result readings.old readings.new
+        (values (view tree.now)) }
 {
     let members = find_members(tree);
     let mut roots = Vec::new(alloc);
@@ -187,8 +191,10 @@ fn whole_object_from(
     mut filled: Vec<Group>,
 ) -> Result<Object, ReadFault>
     requires found { data_of members.now ≡ members_of (view tree.now) }
-    requires filled { all_outcomes filled.items ≡ grouped (of_object (data_of members.now) ++ of_content (data_of members.now)) }
-    ensures { Fits (read (named object_schema) (view tree.now)) object_doc result (counts (all_outcomes filled.items)) }
+    requires filled { all_outcomes filled.items
+        ≡ grouped (of_object (data_of members.now) ++ of_content (data_of members.now)) }
+    ensures { Fits (read (named object_schema) (view tree.now)) object_doc result
+        (counts (all_outcomes filled.items)) }
 {
     let in_content = take_one(members.content_schema, &mut filled);
     let in_object = take_of_object(alloc, members, &mut filled);
@@ -203,7 +209,8 @@ pub(crate) fn read_items(
     tree: &Value,
     readings: &mut Readings,
 ) -> Result<ArrayItems, ReadFault>
-    ensures { Reads (read array_items (view tree.now)) array_items_doc result readings.old readings.new (values (view tree.now)) }
+    ensures { Reads (read array_items (view tree.now)) array_items_doc result readings.old readings.new
+        (values (view tree.now)) }
 {
     let mut roots = Vec::new(alloc);
     push_alone(&mut roots, tree, true)?;

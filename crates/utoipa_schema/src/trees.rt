@@ -216,7 +216,8 @@ pub fn read_ref_or_schema(
     tree: &Value,
     readings: &mut Readings,
 ) -> Result<RefOr<Schema>, ReadFault>
-    ensures { Reads (read_as ⟦<RefOr<Schema> as Documented>⟧.kind (view tree.now)) ⟦<RefOr<Schema> as Documented>⟧.doc result
+    ensures { Reads (read_as ⟦<RefOr<Schema> as Documented>⟧.kind (view tree.now))
+        ⟦<RefOr<Schema> as Documented>⟧.doc result
         readings.old readings.new (values (view tree.now)) }
 {
     read::read_ref_or_schema(alloc, tree, readings)
@@ -230,7 +231,8 @@ pub fn read_schema_list(
     tree: &Value,
     readings: &mut Readings,
 ) -> Result<Vec<RefOr<Schema>>, ReadFault>
-    ensures { Reads (read_as ⟦<Vec<RefOr<Schema>> as Documented>⟧.kind (view tree.now)) ⟦<Vec<RefOr<Schema>> as Documented>⟧.doc result
+    ensures { Reads (read_as ⟦<Vec<RefOr<Schema>> as Documented>⟧.kind (view tree.now))
+        ⟦<Vec<RefOr<Schema>> as Documented>⟧.doc result
         readings.old readings.new (values (view tree.now)) }
 {
     read::read_ref_or_schema_list(alloc, tree, readings)
@@ -244,7 +246,8 @@ pub fn read_schema_map(
     tree: &Value,
     readings: &mut Readings,
 ) -> Result<BTreeMap<String, RefOr<Schema>>, ReadFault>
-    ensures { Reads (read_as ⟦<BTreeMap<String, RefOr<Schema>> as Documented>⟧.kind (view tree.now)) ⟦<BTreeMap<String, RefOr<Schema>> as Documented>⟧.doc result
+    ensures { Reads (read_as ⟦<BTreeMap<String, RefOr<Schema>> as Documented>⟧.kind (view tree.now))
+        ⟦<BTreeMap<String, RefOr<Schema>> as Documented>⟧.doc result
         readings.old readings.new (values (view tree.now)) }
 {
     read::read_ref_or_schema_map(alloc, tree, readings)

@@ -40,7 +40,8 @@ impl RefBuilder {
         alloc: Global,
         schema_name: &str,
     ) -> Result<RefBuilder, AllocError>
-        ensures { IfOk result (λ b. (location : String Global) × (string_bytes location ≡ schema_location schema_name.now)
+        ensures { IfOk result (λ b. (location : String Global)
+            × (string_bytes location ≡ schema_location schema_name.now)
             × (built_reference b ≡ record (built_reference self) { ref_location = location })) }
     {
         self.reference.ref_location = joined(alloc, SCHEMAS, schema_name)?;

@@ -49,7 +49,8 @@ pub(crate) fn read_array_annotations(
     alloc: Global,
     tree: &Value,
 ) -> Result<ArrayAnnotations, ReadFault>
-    ensures ok { IfOk result (λ a. part array_annotation_rows (view tree.now) ≡ Some (list_doc (array_annotation_docs a))) }
+    ensures ok { IfOk result (λ a. part array_annotation_rows (view tree.now)
+        ≡ Some (list_doc (array_annotation_docs a))) }
     ensures err { IfErr result (Refuses (part array_annotation_rows (view tree.now))) }
 {
     let fields = read_part(alloc, tree, array_annotation_rows!(row_names!()))?;
@@ -61,7 +62,8 @@ pub(crate) fn clone_array_annotations(
     alloc: Global,
     array: &Array,
 ) -> Result<ArrayAnnotations, AllocError>
-    ensures { IfOk result (λ copy. array_annotation_docs copy ≡ array_annotation_docs (annotations_of_array array.now)) }
+    ensures { IfOk result (λ copy. array_annotation_docs copy
+        ≡ array_annotation_docs (annotations_of_array array.now)) }
 {
     array_annotation_rows!(clone_table_alone!(ArrayAnnotations, array, alloc))
 }

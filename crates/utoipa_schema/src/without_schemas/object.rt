@@ -56,7 +56,8 @@ pub(crate) fn read_object_annotations(
     alloc: Global,
     tree: &Value,
 ) -> Result<ObjectAnnotations, ReadFault>
-    ensures ok { IfOk result (λ o. part object_annotation_rows (view tree.now) ≡ Some (list_doc (object_annotation_docs o))) }
+    ensures ok { IfOk result (λ o. part object_annotation_rows (view tree.now)
+        ≡ Some (list_doc (object_annotation_docs o))) }
     ensures err { IfErr result (Refuses (part object_annotation_rows (view tree.now))) }
 {
     let fields = read_part(alloc, tree, object_annotation_rows!(row_names!()))?;
@@ -68,7 +69,8 @@ pub(crate) fn clone_object_annotations(
     alloc: Global,
     object: &Object,
 ) -> Result<ObjectAnnotations, AllocError>
-    ensures { IfOk result (λ copy. object_annotation_docs copy ≡ object_annotation_docs (annotations_of_object object.now)) }
+    ensures { IfOk result (λ copy. object_annotation_docs copy
+        ≡ object_annotation_docs (annotations_of_object object.now)) }
 {
     object_annotation_rows!(clone_table_alone!(ObjectAnnotations, object, alloc))
 }
@@ -109,7 +111,8 @@ pub(crate) struct GreatestLimits {
 
 /// Reads a [`GreatestLimits`] from a tree. The tree is refused where one of the members is not of its kind.
 pub(crate) fn read_greatest_limits(alloc: Global, tree: &Value) -> Result<GreatestLimits, ReadFault>
-    ensures ok { IfOk result (λ g. part greatest_limit_rows (view tree.now) ≡ Some (list_doc (greatest_limit_docs g))) }
+    ensures ok { IfOk result (λ g. part greatest_limit_rows (view tree.now)
+        ≡ Some (list_doc (greatest_limit_docs g))) }
     ensures err { IfErr result (Refuses (part greatest_limit_rows (view tree.now))) }
 {
     let fields = read_part(alloc, tree, greatest_limit_rows!(row_names!()))?;
@@ -121,7 +124,8 @@ pub(crate) fn clone_greatest_limits(
     alloc: Global,
     object: &Object,
 ) -> Result<GreatestLimits, AllocError>
-    ensures { IfOk result (λ copy. greatest_limit_docs copy ≡ greatest_limit_docs (greatest_limits_of_object object.now)) }
+    ensures { IfOk result (λ copy. greatest_limit_docs copy
+        ≡ greatest_limit_docs (greatest_limits_of_object object.now)) }
 {
     greatest_limit_rows!(clone_table_alone!(GreatestLimits, object, alloc))
 }

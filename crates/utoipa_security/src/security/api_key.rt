@@ -146,7 +146,8 @@ impl ApiKey {
 
     /// Sends the scheme with its member `type`, of this word. Fails where the sink does; then some of it may have been sent.
     pub(crate) fn emit_typed<S: JsonSink>(&self, out: &mut S, word: &str) -> Result<(), AllocError>
-        ensures { OnOk result (S.adds out.old (events (write (tagged_doc (codes "type") word.now (api_key_doc self.now)))) out.new) }
+        ensures { OnOk result (S.adds out.old
+            (events (write (tagged_doc (codes "type") word.now (api_key_doc self.now)))) out.new) }
     {
         let (place, value) = self.place_and_value();
         let names = api_key_rows!(row_names!() [tag "in" place,] tag "type" word,);

@@ -192,7 +192,8 @@ impl Http {
 
     /// Sends the scheme with its member `type`, of this word. Fails where the sink does; then some of it may have been sent.
     pub(crate) fn emit_typed<S: JsonSink>(&self, out: &mut S, word: &str) -> Result<(), AllocError>
-        ensures { OnOk result (S.adds out.old (events (write (tagged_doc (codes "type") word.now (http_doc self.now)))) out.new) }
+        ensures { OnOk result (S.adds out.old
+            (events (write (tagged_doc (codes "type") word.now (http_doc self.now)))) out.new) }
     {
         let names = http_rows!(row_names!() tag "type" word,);
         let values = http_rows!(row_values!(self) tag "type" word,);

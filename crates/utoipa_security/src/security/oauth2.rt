@@ -75,7 +75,8 @@ impl OAuth2 {
     ) -> Result<OAuth2, AllocError>
         requires can { I.can_next flows }
         requires ends { IsFinite (I.remaining flows) }
-        ensures { IfOk result (λ s. IsKeyedFrom I.next_gives flows s.flows × (s ≡ made_oauth2 s.flows (Some description))) }
+        ensures { IfOk result (λ s. IsKeyedFrom I.next_gives flows s.flows
+            × (s ≡ made_oauth2 s.flows (Some description))) }
     {
         Ok(OAuth2 {
             flows: keyed_flows(alloc, flows)?,
@@ -104,7 +105,8 @@ impl OAuth2 {
 
     /// Sends the scheme with its member `type`, of this word. Fails where the sink does; then some of it may have been sent.
     pub(crate) fn emit_typed<S: JsonSink>(&self, out: &mut S, word: &str) -> Result<(), AllocError>
-        ensures { OnOk result (S.adds out.old (events (write (tagged_doc (codes "type") word.now (oauth2_doc self.now)))) out.new) }
+        ensures { OnOk result (S.adds out.old
+            (events (write (tagged_doc (codes "type") word.now (oauth2_doc self.now)))) out.new) }
     {
         let names = oauth2_rows!(row_names!() tag "type" word,);
         let values = oauth2_rows!(row_values!(self) tag "type" word,);

@@ -76,7 +76,8 @@ impl OpenIdConnect {
 
     /// Sends the scheme with its member `type`, of this word. Fails where the sink does; then some of it may have been sent.
     pub(crate) fn emit_typed<S: JsonSink>(&self, out: &mut S, word: &str) -> Result<(), AllocError>
-        ensures { OnOk result (S.adds out.old (events (write (tagged_doc (codes "type") word.now (open_id_connect_doc self.now)))) out.new) }
+        ensures { OnOk result (S.adds out.old
+            (events (write (tagged_doc (codes "type") word.now (open_id_connect_doc self.now)))) out.new) }
     {
         let names = open_id_connect_rows!(row_names!() tag "type" word,);
         let values = open_id_connect_rows!(row_values!(self) tag "type" word,);
