@@ -1,10 +1,8 @@
 -- Tables whose members come from tokens, in any order.
-use Rattle.std.proofs.Common.{Bor, ◌≡◌, inl, inr, ◌∙◌, ◌≤◌, ◌<◌, ◌+◌, ◌-◌, ℕ, List, [], ◌∷◌, length, Bool, true, false, not, ◌||◌, cond, Option, Some, None, option_map, is_some, String, Global, string_bytes, string_cmp, true≢false, refl, sym, ap, subst, arith}
+use Rattle.std.proofs.Common.{Bor, ◌≡◌, inl, inr, ◌∙◌, ◌+◌, ℕ, List, [], ◌∷◌, length, Bool, true, false, not, ◌||◌, cond, Option, Some, None, option_map, is_some, true≢false, refl, sym, ap, subst, arith}
 use Rattle.std.proofs.lemmas.Slice.Eq.{bytes_eq-Decides}
-use Rattle.std.specs.BTreeMap.{insert_entry}
 use Rattle.std.specs.Str.{bytes_eq}
 use Rattle.json.specs.Json as json
-use Rattle.json.specs.Json.{read_key}
 use Rattle.json.specs.Reads.{token_of}
 use Rattle.json.specs.declared.token.Token as declared
 use Rattle.json.specs.declared.token.Token.TheVariants as made
@@ -13,28 +11,22 @@ use Rattle.json.specs.Token.{Token}
 use Rattle.serde_json.specs.Data.{Data, null, boolean, number, string, array, object, Members, no_members, put}
 use Rattle.serde_json.specs.Read.{of_json, of_items, of_members, number_of, converted}
 use Rattle.serde_json.specs.Find.{get_member}
-use Rattle.serde_json.specs.View.{view, members_view}
-use Rattle.serde_json.specs.declared.value.Value.{Value}
-use Rattle.serde_json.proofs.Views.{members_view-insert_entry, get_member-put, get_member-put_other}
-use Rattle.utoipa_base.specs.Docs.{Doc, Docs, none_doc, some_doc, table_doc}
-use Rattle.utoipa_base.specs.Extensions.{is_extension, extension_members, extensions_at, some_if_any, extensions_view}
+use Rattle.serde_json.proofs.Views.{get_member-put, get_member-put_other}
+use Rattle.utoipa_base.specs.Docs.{Doc, none_doc, some_doc}
+use Rattle.utoipa_base.specs.Extensions.{is_extension}
 use Rattle.utoipa_base.specs.Fields.{field, field_of, fields}
 use Rattle.utoipa_base.specs.FromTokens.{Comes, FromTokens}
-use Rattle.utoipa_base.specs.Kinds.{ObjectType, Kind, Row, named, required, optional, defaulted}
+use Rattle.utoipa_base.specs.Kinds.{Kind, Row, required, optional, defaulted}
 use Rattle.utoipa_base.specs.OpenRows.{Held, IsHeld, AreHeld, Takes, Taken, held_fields, held_schema_count, is_row}
 use Rattle.utoipa_base.specs.Reading.{read, is_null}
 use Rattle.utoipa_base.specs.Rows.{rows_values, texts}
-use Rattle.utoipa_base.specs.Tables.{table, has_extensions}
-use Rattle.utoipa_base.specs.Values.{values, values_of, schema_count, docs_schema_count}
-use Rattle.utoipa_base.specs.declared.extensions.Extensions.{Extensions}
+use Rattle.utoipa_base.specs.Values.{values, values_of, schema_count}
 use Rattle.utoipa_base.proofs.BoolFacts.{or_first, or_second, apart}
-use Rattle.utoipa_base.proofs.Places.{counted_more, schema_count-none, schema_count-some, schema_count-table}
-use Rattle.utoipa_base.proofs.RowLists.{rows_fit, rows_fewer}
+use Rattle.utoipa_base.proofs.Places.{schema_count-none, schema_count-some}
 use Rattle.utoipa_base.proofs.TableNames as names
-use Rattle.utoipa_base.proofs.TableNames.{are_apart, table_apart, first_plain, first_once, others_apart}
+use Rattle.utoipa_base.proofs.TableNames.{are_apart, first_plain, first_once, others_apart}
 use Rattle.utoipa_base.proofs.TokenGrammar.{value_is}
 use Rattle.utoipa_base.proofs.TokenTrees.{converted_some}
-use Rattle.utoipa_base.proofs.TokenMembers.{MembersSoFar, no_member_yet, one_member_more, object_comes, extensions_put}
 
 -- ---- names
 
@@ -143,105 +135,6 @@ held_read [] (o ∷ os) ms h = absurd h
 held_read (r ∷ rs) [] ms h = absurd h
 held_read (r ∷ rs) (None ∷ os) ms h = rw (no_member_held r None (get_member r.name ms) refl h.0, held_read rs os ms h.1) refl
 held_read (r ∷ rs) (Some x ∷ os) ms h = rw (held_field r (Some x) (get_member r.name ms) x refl h.0, held_read rs os ms h.1) refl
-
--- ---- the loop
-
--- what is held of the members `found`, where the counter rose from `start` to `count`
-pub record RowsHeld (rs : List Row) (os : Held) (found : Members) (start count : ℕ) : Type 0 where
-  pub held : AreHeld rs os found
-  pub at_most : count ≤ start + rows_values rs (object found)
-
--- of the members before `now`, the rows hold theirs, and the extensions are `xs`
-pub record TableSoFar (rs : List Row) (depth : ℕ) (first now : List Token) (os : Held) (xs : List (String Global × Value)) (start count : ℕ) : Type 0 where
-  pub found : Members
-  pub members : MembersSoFar depth first now found
-  pub extensions : extension_members found ≡ members_view xs
-  pub rows : are_apart rs ≡ true → RowsHeld rs os found start count
-  pub grows : start ≤ count
-  pub at_least : count < 18446744073709551615 → start + held_schema_count os ≤ count
-
--- before the first member
-pub table_begun : (rs : List Row) (depth : ℕ) (first : List Token) (os : Held) (xs : List (String Global × Value)) (start : ℕ) → AreHeld rs os no_members → held_schema_count os ≡ 0 → xs ≡ [] → TableSoFar rs depth first first os xs start start
-table_begun rs depth first os xs start held none nothing =
-    record {
-      found = no_members;
-      members = no_member_yet depth first;
-      extensions = ap members_view (sym nothing);
-      rows = λ a. record { held = held; at_most = omega arith };
-      grows = omega arith;
-      at_least = λ below. omega (arith, none);
-    }
-
--- an extension more
-pub table_extension : (rs : List Row) (depth : ℕ) (first now s new : List Token) (os : Held) (xs ys : List (String Global × Value)) (name : String Global) (n : List ℕ) (v : Value) (start count : ℕ) → TableSoFar rs depth first now os xs start count
-    → read_key now ≡ Some (Some n, s) → length new < length s → Comes (view v) depth s new → string_bytes name ≡ n → is_extension n ≡ true → ys ≡ insert_entry string_cmp xs name v → TableSoFar rs depth first new os ys start count
-table_extension rs depth first now s new os xs ys name n v start count so_far key less comes same_name extends is =
-    record {
-      found = put n (view v) so_far.found;
-      members = one_member_more depth first now s new n (view v) so_far.found so_far.members key comes less;
-      extensions = extensions_put true n (view v) so_far.found extends so_far.members.ordered ∙ ap (put n (view v)) so_far.extensions
-          ∙ ap (λ m. put m (view v) (members_view xs)) (sym same_name) ∙ sym (members_view-insert_entry xs name v) ∙ ap members_view (sym is);
-      rows = λ a. let unlike = extension_no_row n rs extends a in record {
-        held = other_held rs os so_far.found n (view v) unlike (so_far.rows a).held;
-        at_most = omega (arith, (so_far.rows a).at_most, other_values rs so_far.found n (view v) unlike);
-      };
-      grows = so_far.grows;
-      at_least = so_far.at_least;
-    }
-
--- a member of another name more, which is not kept
-pub table_other : (rs : List Row) (depth : ℕ) (first now s new : List Token) (os : Held) (xs : List (String Global × Value)) (n : List ℕ) (d : Data) (start count : ℕ) → TableSoFar rs depth first now os xs start count
-    → read_key now ≡ Some (Some n, s) → length new < length s → Comes d depth s new → is_extension n ≡ false → is_row n rs ≡ false → TableSoFar rs depth first new os xs start count
-table_other rs depth first now s new os xs n d start count so_far key less comes extends unlike =
-    record {
-      found = put n d so_far.found;
-      members = one_member_more depth first now s new n d so_far.found so_far.members key comes less;
-      extensions = extensions_put false n d so_far.found extends so_far.members.ordered ∙ so_far.extensions;
-      rows = λ a. record {
-        held = other_held rs os so_far.found n d unlike (so_far.rows a).held;
-        at_most = omega (arith, (so_far.rows a).at_most, other_values rs so_far.found n d unlike);
-      };
-      grows = so_far.grows;
-      at_least = so_far.at_least;
-    }
-
--- a member that its row has taken
-pub table_taken : (rs : List Row) (depth : ℕ) (first now s new : List Token) (os ps : Held) (xs : List (String Global × Value)) (n : List ℕ) (start count next : ℕ) → TableSoFar rs depth first now os xs start count
-    → read_key now ≡ Some (Some n, s) → length new < length s → Taken rs n os ps depth s new count next → is_extension n ≡ false → TableSoFar rs depth first new ps xs start next
-table_taken rs depth first now s new os ps xs n start count next so_far key less one extends =
-    let d = one.tree in
-    record {
-      found = put n d so_far.found;
-      members = one_member_more depth first now s new n d so_far.found so_far.members key one.comes less;
-      extensions = extensions_put false n d so_far.found extends so_far.members.ordered ∙ so_far.extensions;
-      rows = λ a. record {
-        held = taken_held rs n d one.field os ps so_far.found a one.takes (so_far.rows a).held;
-        at_most = omega (arith, (so_far.rows a).at_most, one.at_most, taken_values rs n d one.field os ps so_far.found a one.takes (so_far.rows a).held);
-      };
-      grows = omega (arith, so_far.grows, one.grows);
-      at_least = counted_more _ _ _ _ _ _ so_far.at_least one.grows one.at_least (taken_counted rs n d one.field os ps one.takes);
-    }
-
--- after the last member
-pub table_comes : {R : Type 0} (docs : R → Docs) (n : ObjectType) (rs : List Row) (depth : ℕ) (old first now new : List Token) (os : Held) (xs : List (String Global × Value)) (v : R) (o : Option Extensions) (start count : ℕ) → rs ≡ table n → has_extensions n ≡ true → 0 < depth
-    → old ≡ token.begin_object ∷ first → TableSoFar rs (depth - 1) first now os xs start count → read_key now ≡ Some (None, new) → held_fields rs os ≡ Some (docs v) → docs_schema_count (docs v) ≤ held_schema_count os
-    → option_map extensions_view o ≡ some_if_any (members_view xs) → FromTokens {A = R × Option Extensions} (read (named n)) (λ w. table_doc n (docs w.0) (option_map extensions_view w.1)) (v, o) depth old new start count
-table_comes docs n rs depth old first now new os xs v o start count is extended deep opens so_far ends read_as fewer extends =
-    let ms = so_far.found in
-    let a : are_apart rs ≡ true = ap are_apart is ∙ table_apart n in
-    let held = so_far.rows a in
-    let e : option_map extensions_view o ≡ extensions_at true (object ms) = extends ∙ ap some_if_any (sym so_far.extensions) in
-    record {
-      tree = object ms;
-      comes = object_comes depth old first now new ms deep opens so_far.members ends;
-      reads = record {
-        ok = rows_fit true n rs (object ms) (docs v) (option_map extensions_view o) is extended refl (held_read rs os ms held.held ∙ read_as) e;
-        err = tt;
-        grows = so_far.grows;
-        at_most = omega (arith, held.at_most, rows_fewer n rs (object ms) is);
-        at_least = λ below. omega (arith, schema_count-table n (docs v) (option_map extensions_view o), fewer, so_far.at_least below);
-      };
-    }
 
 -- ---- the rows of a list
 

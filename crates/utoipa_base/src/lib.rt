@@ -62,7 +62,6 @@ pub use lists::{list_from, list_if_any};
 pub use name_hasher::NameHasher;
 pub use number::Number;
 pub use omit::Omit;
-pub use open_table::table_from_tokens;
 pub use ordered_map::OrderedMap;
 pub use pending::PendingExtensions;
 pub use readings::{Counted, Readings};

@@ -1,30 +1,23 @@
-//! A member table read from the tokens of a text, whose members come in any order.
+//! The rows of a member table read from the tokens of a text, whose members come in any order.
 ghost use Rattle.std.specs.Prelude.{◌≡◌, ◌≤◌, ◌∷◌, [], ◌+◌, ℕ, List, Option, None, Some, length, true, false, option_map, IfOk, IfSome, OnOk, IsTrue, refl};
 ghost use Rattle.json.specs.Reads.{token_of};
 ghost use Rattle.serde_json.specs.Data.{no_members};
-ghost use Rattle.utoipa_base.specs.Docs.{Doc, table_doc};
-ghost use Rattle.utoipa_base.specs.Extensions.{extensions_view};
+ghost use Rattle.utoipa_base.specs.Docs.{Doc};
 ghost use Rattle.utoipa_base.specs.Fields.{field_of};
 ghost use Rattle.utoipa_base.specs.FromTokens.{FromTokens};
-ghost use Rattle.utoipa_base.specs.Kinds.{ObjectType, named};
 ghost use Rattle.utoipa_base.specs.OpenRows.{AreHeld, Held, Taken, held_fields, held_schema_count, is_row};
-ghost use Rattle.utoipa_base.specs.Reading.{read};
 ghost use Rattle.utoipa_base.specs.Rows.{texts};
-ghost use Rattle.utoipa_base.specs.Tables.{table, has_extensions};
 ghost use Rattle.utoipa_base.specs.Values.{schema_count, docs_schema_count};
 
 use crate::empty::Empty;
-use crate::extensions::{Extensions, extensions_if_any, is_extension_name};
 use crate::readings::Readings;
 use crate::table::{
     DefaultedField, OptionalField, OrNullField, RequiredField, RowField, RowFields,
 };
-use crate::token_tree::next_tree;
 use crate::tree::Tree;
 use crate::unread::Unread;
 use json::{Reader, Token};
 use std::alloc::Global;
-use std::collections::BTreeMap;
 
 /// What is read at one row of a member table, also from tokens. A trait of its own: a row that is read from a tree needs no more.
 pub trait OpenField: RowField {
@@ -240,48 +233,4 @@ impl<H: OpenField, R: RowFields, S: OpenFields<R>> OpenFields<(H, R)> for (Optio
         let rest = others.close(alloc)?;
         Ok((first, rest))
     }
-}
-
-/// An object by the names of its table's rows, and its extensions, from the tokens of a text: it begins with the token `first` and goes
-/// on with those that the reader has. Members of other names are passed over.
-///
-/// Fails where the tokens are no such object, where the member of a row comes twice, where a number is a fraction, and where memory
-/// runs out.
-pub fn table_from_tokens<S: OpenFields<R>, R: RowFields>(
-    alloc: Global,
-    first: Token<'_>,
-    reader: &mut Reader<'_>,
-    depth: usize,
-    names: &[&'static str],
-    readings: &mut Readings,
-) -> Result<(R, Option<Extensions>), Unread>
-    requires { length names.now ≡ R.count }
-    ensures read { IfOk result (λ v. (n : ObjectType) → R.rows (texts names.now) ≡ table n → has_extensions n ≡ true
-        → FromTokens (read (named n)) (λ w. table_doc n (R.docs w.0) (option_map extensions_view w.1)) v
-        depth (token_of first.entry ∷ reader.old) reader.new readings.old readings.new) }
-    ensures left { OnOk result (length reader.new ≤ length reader.old) }
-{
-    let Token::BeginObject = first else {
-        return Err(Unread::AsTree);
-    };
-    if depth == 0 {
-        return Err(Unread::AsTree);
-    }
-    let mut so_far = S::begin();
-    let mut extensions = BTreeMap::new(alloc);
-    'members: while let Some(name) = reader.next_key()? {
-        let token = reader.next().ok_or(Unread::AsTree)?;
-        if is_extension_name(name) {
-            let key = String::from_str(alloc, name)?;
-            let value = next_tree(alloc, token, reader, depth - 1)?;
-            drop(extensions.insert(key, value)?);
-        } else {
-            let is_row = so_far.take(alloc, names, name, token, reader, depth - 1, readings)?;
-            if !is_row {
-                drop(next_tree(alloc, token, reader, depth - 1)?);
-            }
-        }
-    }
-    let fields = so_far.close(alloc)?;
-    Ok((fields, extensions_if_any(extensions)))
 }
