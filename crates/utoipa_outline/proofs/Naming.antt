@@ -1,22 +1,10 @@
 -- Which schema a text names.
-use Rattle.std.proofs.Common.{◌≡◌, ◌≢◌, ◌==◌, ◌||◌, ◌++◌, ℕ, List, [], ◌∷◌, Bool, true, false, cond, Option, None, Some, refl, sym, ap, ◌∙◌}
+use Rattle.std.proofs.Common.{◌≡◌, ◌≢◌, ◌==◌, ◌||◌, ℕ, List, [], ◌∷◌, Bool, true, false, cond, Option, None, Some, refl, sym, ap, ◌∙◌}
 use Rattle.std.proofs.lemmas.Bool.{eqb-true}
 use Rattle.std.proofs.lemmas.Str.{is_utf8-from_IsUtf8, IsUtf8-from_is_utf8}
 use Rattle.std.specs.Str.{IsUtf8, is_utf8}
 use Rattle.percent_encoding.specs.Percent.{percent_decode}
-use Rattle.utoipa_outline.specs.Used.{behind, schema_token, fragment_token, reference_token, mapping_token}
-
--- ---- fronts
-
-none_by : {X : Type 0} (b : Bool) (o : Option X) → (b ≡ true → o ≡ None) → cond b o None ≡ None
-none_by true o f = f refl
-none_by false o f = refl
-
--- nothing stands behind a front that is not there
-pub lacks : (n s : List ℕ) → ((rest : List ℕ) → s ≢ n ++ rest) → behind n s ≡ None
-lacks [] s h = absurd (h s refl)
-lacks (c ∷ cs) [] h = refl
-lacks (c ∷ cs) (b ∷ bs) h = none_by (b == c) (behind cs bs) (λ e. lacks cs bs (λ rest is. h rest (ap (λ x. x ∷ bs) (eqb-true b c e) ∙ ap (λ ys. c ∷ ys) is)))
+use Rattle.utoipa_outline.specs.Used.{schema_token, fragment_token, reference_token, mapping_token}
 
 -- ---- fragments
 

@@ -3,15 +3,10 @@ use Rattle.std.specs.Prelude.{ℕ, List, [], ◌∷◌, ◌==◌, Bool, false, i
 use Rattle.std.specs.List.{list_any, before_first}
 use Rattle.std.specs.Str.{bytes_eq, is_utf8}
 use Rattle.percent_encoding.specs.Percent.{percent_decode}
+use Rattle.utoipa_base.specs.References.{behind}
 use Rattle.utoipa_check.specs.Pointers.{escaped}
 use Rattle.utoipa_check.specs.References.{Reference}
 use Rattle.utoipa_check.specs.Referring.{Way, by_reference, by_mapping, by_requirement}
-
--- what stands behind a front, where the bytes begin with it
-abbrev pub behind : (front bs : List ℕ) → Option (List ℕ)
-behind [] bs = Some bs
-behind (c ∷ cs) [] = None
-behind (c ∷ cs) (b ∷ bs) = if b == c then behind cs bs else None
 
 -- the first token of what stands behind a `/` of a JSON Pointer (RFC 6901, section 3)
 abbrev pub token : List ℕ → List ℕ
