@@ -1,5 +1,5 @@
--- What a program's clauses say of documents that it reads, writes, merges and nests, in the words of the crates below, so that such a program
--- names this crate alone.
+-- What a program's clauses say of documents that it reads, writes, merges and nests, in the words of the crates below, so that the contracts of such
+-- a program name this crate alone. The program's line of crates.txt names the crates below too.
 
 -- a type's kind and documents; what a tree is read as, what a document is written as, and which read back
 pub use Rattle.utoipa_base.specs.Docs.{Doc}

@@ -1,5 +1,6 @@
 -- What a program names that implements the traits of this library: documents, the schemas that types are composed to, operations, responses,
--- parameters and tags. Here stand the words of the crates below too, so that such a program names this crate alone.
+-- parameters and tags. Here stand the words of the crates below too, so that the contracts of such a program name this crate alone. The program's
+-- line of crates.txt names the crates below too.
 use Rattle.std.proofs.Common.{ap}
 use Rattle.std.specs.Prelude.{◌≡◌, codes}
 -- documents: values as contracts see them

@@ -2,7 +2,7 @@
 ghost use Rattle.std.specs.Prelude.{◌≡◌, IfOk};
 ghost use Rattle.std.specs.Iterator.{IsFinite};
 ghost use Rattle.std.specs.Option.{ForSome};
-ghost use Rattle.utoipa_base.specs.Lists.{IsFilledIfAny};
+ghost use Rattle.utoipa_base.specs.Lists.{EachIterator, IsFilledIfAny};
 ghost use Rattle.utoipa_merging.specs.Merged.{AddsNothing};
 ghost use Rattle.utoipa.specs.OpenApi.{built_openapi, openapi_doc, IsEmptyOpenApi};
 
@@ -56,14 +56,14 @@ impl OpenApiBuilder {
     /// Sets the servers at which the API is found. The iterator has to end.
     ///
     /// Fails where memory runs out, and then gives up what was built.
-    pub fn servers<I: Iterator<Item = Server> + Drop>(
+    pub fn servers<I: IntoIterator<Item = Server>>(
         mut self,
         alloc: Global,
         servers: Option<I>,
     ) -> Result<OpenApiBuilder, AllocError>
-        requires can { ForSome servers (λ it. I.can_next it) }
-        requires ends { ForSome servers (λ it. IsFinite (I.remaining it)) }
-        ensures { IfOk result (λ b. (listed : _) × IsFilledIfAny I.next_gives servers listed
+        requires can { ForSome servers (EachIterator I.into_iter_gives I.IntoIter.can_next) }
+        requires ends { ForSome servers (EachIterator I.into_iter_gives (λ it. IsFinite (I.IntoIter.remaining it))) }
+        ensures { IfOk result (λ b. (listed : _) × IsFilledIfAny I.into_iter_gives I.IntoIter.next_gives servers listed
             × (built_openapi b ≡ record (built_openapi self) { servers = listed })) }
     {
         let servers = list_if_any(alloc, servers);
@@ -97,14 +97,15 @@ impl OpenApiBuilder {
     /// Sets the security requirements of all operations that have none of their own. The iterator has to end.
     ///
     /// Fails where memory runs out, and then gives up what was built.
-    pub fn security<I: Iterator<Item = SecurityRequirement> + Drop>(
+    pub fn security<I: IntoIterator<Item = SecurityRequirement>>(
         mut self,
         alloc: Global,
         security: Option<I>,
     ) -> Result<OpenApiBuilder, AllocError>
-        requires can { ForSome security (λ it. I.can_next it) }
-        requires ends { ForSome security (λ it. IsFinite (I.remaining it)) }
-        ensures { IfOk result (λ b. (listed : _) × IsFilledIfAny I.next_gives security listed
+        requires can { ForSome security (EachIterator I.into_iter_gives I.IntoIter.can_next) }
+        requires ends { ForSome security (EachIterator I.into_iter_gives (λ it. IsFinite (I.IntoIter.remaining it))) }
+        ensures { IfOk result (λ b. (listed : _)
+            × IsFilledIfAny I.into_iter_gives I.IntoIter.next_gives security listed
             × (built_openapi b ≡ record (built_openapi self) { security = listed })) }
     {
         let security = list_if_any(alloc, security);
@@ -114,14 +115,14 @@ impl OpenApiBuilder {
     /// Sets what is to be said of tags. The iterator has to end.
     ///
     /// Fails where memory runs out, and then gives up what was built.
-    pub fn tags<I: Iterator<Item = Tag> + Drop>(
+    pub fn tags<I: IntoIterator<Item = Tag>>(
         mut self,
         alloc: Global,
         tags: Option<I>,
     ) -> Result<OpenApiBuilder, AllocError>
-        requires can { ForSome tags (λ it. I.can_next it) }
-        requires ends { ForSome tags (λ it. IsFinite (I.remaining it)) }
-        ensures { IfOk result (λ b. (listed : _) × IsFilledIfAny I.next_gives tags listed
+        requires can { ForSome tags (EachIterator I.into_iter_gives I.IntoIter.can_next) }
+        requires ends { ForSome tags (EachIterator I.into_iter_gives (λ it. IsFinite (I.IntoIter.remaining it))) }
+        ensures { IfOk result (λ b. (listed : _) × IsFilledIfAny I.into_iter_gives I.IntoIter.next_gives tags listed
             × (built_openapi b ≡ record (built_openapi self) { tags = listed })) }
     {
         let tags = list_if_any(alloc, tags);

@@ -182,7 +182,8 @@ impl Tree for OpenApi {
 // The document that an object of these members is, and of no paths. Fails as reading its tree does, and where a schema is read.
 fn of_others(alloc: Global, others: Map<String, Value>) -> Result<OpenApi, Unread>
     ensures read { IfOk result
-        (λ v. read (named open_api_object) (object (put (codes "paths") (object no_members) (members_view others.entries))) ≡ Some (openapi_doc v)) }
+        (λ v. read (named open_api_object)
+        (object (put (codes "paths") (object no_members) (members_view others.entries))) ≡ Some (openapi_doc v)) }
     ensures no_schema { IfOk result (λ v. schema_count (openapi_doc v) ≡ 0) }
 {
     let mut members = others;
@@ -207,7 +208,8 @@ fn if_uncounted<T: Drop>(value: T, readings: &Readings) -> Result<T, Unread>
 // The document with these parts in place of its own.
 fn with_large(rest: OpenApi, large: LargeParts) -> OpenApi
     ensures { openapi_doc result ≡ with_fields large_members
-        (doc (option_of components_doc large.0.0) (doc (paths_doc large.1.0.0) (doc (option_of paths_doc large.1.1.0.0) no_docs)))
+        (doc (option_of components_doc large.0.0)
+        (doc (paths_doc large.1.0.0) (doc (option_of paths_doc large.1.1.0.0) no_docs)))
         (openapi_doc rest) }
 {
     let mut document = rest;

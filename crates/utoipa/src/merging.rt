@@ -81,7 +81,8 @@ impl OpenApi {
         ensures fraction { IsErrOf result Fraction ↔ ((lists_have_fraction (openapi_doc self)
             || lists_have_fraction (openapi_doc other)) ≡ true) }
         ensures composer { IsErrOf result Composer → ⊥ }
-        ensures ok { IfOk result (λ merged. IsMerged (openapi_doc self ∷ openapi_doc other ∷ []) (openapi_doc merged)) }
+        ensures ok { IfOk result (λ merged. IsMerged (openapi_doc self ∷ openapi_doc other ∷ [])
+            (openapi_doc merged)) }
         ensures ordered { IfOk result (λ merged. IsInKeyOrder (openapi_doc self) → IsInKeyOrder (openapi_doc merged)) }
     {
         let mut merged = self;
@@ -150,7 +151,9 @@ fn merge_maps(
     alloc: Global,
     later: Maps,
 ) -> Result<(), AllocError>
-    ensures components { OnOk result (AreComponentsMerged (option_of components_doc components.old ∷ option_of components_doc later.0 ∷ []) (option_of components_doc components.new)) }
+    ensures components { OnOk result (AreComponentsMerged
+        (option_of components_doc components.old ∷ option_of components_doc later.0 ∷ [])
+        (option_of components_doc components.new)) }
     ensures paths { OnOk result (ArePathsMerged (paths_doc paths.old ∷ paths_doc later.1 ∷ []) (paths_doc paths.new)) }
     ensures components_err { OnErr result (option_of components_doc components.new
         ≡ option_of components_doc components.old) }
@@ -202,7 +205,8 @@ pub(crate) fn merged_with(
 ) -> Result<OpenApi, AllocError>
     requires plain { lists_have_fraction (openapi_doc document) ≡ false }
     requires other_plain { lists_have_fraction (openapi_doc other) ≡ false }
-    ensures ok { IfOk result (λ merged. IsMerged (openapi_doc document ∷ openapi_doc other ∷ []) (openapi_doc merged)) }
+    ensures ok { IfOk result (λ merged. IsMerged (openapi_doc document ∷ openapi_doc other ∷ [])
+        (openapi_doc merged)) }
     ensures ordered { IfOk result (λ merged. IsInKeyOrder (openapi_doc document) → IsInKeyOrder (openapi_doc other)
         → IsInKeyOrder (openapi_doc merged)) }
 {

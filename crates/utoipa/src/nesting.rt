@@ -32,7 +32,8 @@ impl OpenApi {
         ensures composer { IsErrOf result Composer → ⊥ }
         ensures ok { IfOk result
             (λ nested. IsNested (map
-            (λ path. base.now ++ path) (keys_of (entries_in (paths_of (openapi_doc other))))) (openapi_doc self) (openapi_doc other) (openapi_doc nested)) }
+            (λ path. base.now ++ path) (keys_of (entries_in (paths_of (openapi_doc other))))) (openapi_doc self)
+            (openapi_doc other) (openapi_doc nested)) }
         ensures ordered { IfOk result (λ nested. IsInKeyOrder (openapi_doc self) → IsInKeyOrder (openapi_doc nested)) }
     {
         let behind = |base: &str, path: &str| joined(alloc, base, path);
@@ -112,7 +113,8 @@ fn mount<F: Fn(&str, &str) -> Result<String, AllocError>>(
         → MayRefuseOne F.Fn composer.now base.now (keys_of (entries_in (map_of_docs path_item_doc nested))) }
     ensures ok { OnOk result ((answers : List (List ℕ))
         × MayAnswerEach F.Fn composer.now base.now (keys_of (entries_in (map_of_docs path_item_doc nested))) answers
-        × AreMounted answers (map_of_docs path_item_doc nested) (map_of_docs path_item_doc items.old) (map_of_docs path_item_doc items.new)) }
+        × AreMounted answers (map_of_docs path_item_doc nested) (map_of_docs path_item_doc items.old)
+        (map_of_docs path_item_doc items.new)) }
     ensures ordered { AreItemsInOrder items.old → AreItemsInOrder nested → AreItemsInOrder items.new }
 {
     for (path, item) in nested {

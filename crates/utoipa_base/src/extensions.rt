@@ -1,11 +1,12 @@
 //! Specification extensions.
 ghost use Rattle.std.specs.Prelude.{◌≡◌, ◌↔◌, ℕ, List, false, option_map, IfOk, OnOk, OnErr, IsTrue, string_bytes};
-ghost use Rattle.std.specs.Iterator.{IsFinite, Drains};
+ghost use Rattle.std.specs.Iterator.{IsFinite};
 ghost use Rattle.std.specs.Option.{option_or};
 ghost use Rattle.serde_json.specs.Data.{no_members, put};
 ghost use Rattle.serde_json.specs.Find.{get_member};
 ghost use Rattle.serde_json.specs.View.{view, members_view};
 ghost use Rattle.serde_json.specs.Written.{members_have_float};
+ghost use Rattle.utoipa_base.specs.Lists.{EachIterator, GivesAll};
 
 use crate::all_or_none::put_all;
 use crate::fraction::members_have_fraction;
@@ -13,6 +14,7 @@ use crate::same_trees::same_members;
 use serde_json::{Map, Value};
 use std::alloc::{AllocError, Global};
 use std::collections::BTreeMap;
+use std::iter::{FromIterator, IntoIterator};
 
 mod trees;
 
@@ -48,13 +50,13 @@ impl Extensions {
 
     /// The extensions with the given names, to which no prefix is added. The later of two equal
     /// names stays. The iterator has to end. Fails where memory runs out.
-    pub fn from_pairs<I: Iterator<Item = (String, Value)> + Drop>(
+    pub fn from_pairs<I: IntoIterator<Item = (String, Value)>>(
         alloc: Global,
         pairs: I,
     ) -> Result<Extensions, AllocError>
-        requires can { I.can_next pairs }
-        requires ends { IsFinite (I.remaining pairs) }
-        ensures { IfOk result (λ e. (given : Pairs) × Drains I.next_gives pairs given
+        requires can { EachIterator I.into_iter_gives I.IntoIter.can_next pairs }
+        requires ends { EachIterator I.into_iter_gives (λ it. IsFinite (I.IntoIter.remaining it)) pairs }
+        ensures { IfOk result (λ e. (given : Pairs) × GivesAll I.into_iter_gives I.IntoIter.next_gives pairs given
             × (extensions_view e ≡ put_pairs given no_members)) }
     {
         let mut entries = BTreeMap::new(alloc);
@@ -148,6 +150,22 @@ fn copied_members(
         drop(copies.insert(copy, member.clone()?)?);
     }
     Ok(copies)
+}
+
+/// Extensions are collected of their names, to which no prefix is added, and values, as by [`Extensions::from_pairs`].
+impl FromIterator<(String, Value)> for Extensions {
+    ghost use Rattle.utoipa_base.specs.Extensions.{extensions_view, put_pairs};
+
+    type Alloc = Global;
+
+    ghost from_iter_gives = { λ pairs e. extensions_view e ≡ put_pairs pairs no_members };
+
+    fn from_iter<U: IntoIterator<Item = (String, Value)>>(
+        alloc: Global,
+        iter: U,
+    ) -> Result<Extensions, AllocError> {
+        Extensions::from_pairs(alloc, iter)
+    }
 }
 
 /// Builds `Extensions` from names with or without `x-`.

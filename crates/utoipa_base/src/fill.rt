@@ -1,8 +1,9 @@
 //! Fields that are filled: with a value that was made or put on the heap, and with pairs put into a map.
 ghost use Rattle.std.specs.Prelude.{◌≡◌, Ok, Err, IfOk, IfErr, OnOk, OnErr, string_cmp};
 ghost use Rattle.std.specs.BTreeMap.{insert_entry};
-ghost use Rattle.std.specs.Iterator.{IsFinite, Drains};
+ghost use Rattle.std.specs.Iterator.{IsFinite};
 ghost use Rattle.utoipa_base.specs.Fill.{IsBoxedIfAny, Pairs, put_each};
+ghost use Rattle.utoipa_base.specs.Lists.{EachIterator, GivesAll};
 
 use std::alloc::{AllocError, Global};
 use std::collections::BTreeMap;
@@ -39,13 +40,13 @@ pub fn put<T: Drop>(map: &mut BTreeMap<String, T>, name: String, value: T) -> Re
 
 /// Puts each pair that an iterator gives into a map, in place of an earlier one of that name. The iterator has to end.
 /// Fails where memory runs out, and then some pairs were put.
-pub fn put_each<T: Drop, I: Iterator<Item = (String, T)> + Drop>(
+pub fn put_each<T: Drop, I: IntoIterator<Item = (String, T)>>(
     map: &mut BTreeMap<String, T>,
     pairs: I,
 ) -> Result<(), AllocError>
-    requires can { I.can_next pairs }
-    requires ends { IsFinite (I.remaining pairs) }
-    ensures { OnOk result ((given : Pairs T) × Drains I.next_gives pairs given
+    requires can { EachIterator I.into_iter_gives I.IntoIter.can_next pairs }
+    requires ends { EachIterator I.into_iter_gives (λ it. IsFinite (I.IntoIter.remaining it)) pairs }
+    ensures { OnOk result ((given : Pairs T) × GivesAll I.into_iter_gives I.IntoIter.next_gives pairs given
         × (map.new.entries ≡ put_each given map.old.entries)) }
 {
     for (name, value) in pairs {

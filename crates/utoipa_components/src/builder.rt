@@ -1,8 +1,9 @@
 //! Building components.
 ghost use Rattle.std.specs.Prelude.{◌≡◌, Some, None, IfOk, IfErr, String, string_bytes, string_cmp};
 ghost use Rattle.std.specs.BTreeMap.{insert_entry};
-ghost use Rattle.std.specs.Iterator.{IsFinite, Drains};
+ghost use Rattle.std.specs.Iterator.{IsFinite};
 ghost use Rattle.utoipa_base.specs.Fill.{Pairs, put_each};
+ghost use Rattle.utoipa_base.specs.Lists.{EachIterator, GivesAll};
 ghost use Rattle.utoipa_base.specs.Views.{pairs_of};
 ghost use Rattle.utoipa_base.specs.declared.refs.RefOr.{RefOr};
 ghost use Rattle.utoipa_components.specs.Components.{built_components, AreEmptyComponents, PlacesByName, PathItemsByName};
@@ -87,15 +88,17 @@ impl ComponentsBuilder {
     /// Fails with `KeyIsReference` exactly where a reference stands for the schema of a map's keys, and with `Memory` where memory runs
     /// out, and then gives up what was built.
     pub fn schemas_from<T: ToSchema>(self, alloc: Global) -> Result<ComponentsBuilder, ComposeFault>
-        ensures ok { IfOk result (λ b. (given : Pairs (RefOr Schema)) × (name : String Global) × (schema : RefOr Schema)
+        ensures ok { IfOk result (λ b. (given : Pairs (RefOr Schema)) × (name : String Global)
+            × (schema : RefOr Schema)
             × (held : PlacesByName Schema)
             × (pairs_of place_doc given ≡ T.referred) × (string_bytes name ≡ T.named)
             × (T.described ≡ Some (place_doc schema))
-            × (held.entries ≡ insert_entry string_cmp (put_each given (built_components self).schemas.entries) name schema)
+            × (held.entries
+            ≡ insert_entry string_cmp (put_each given (built_components self).schemas.entries) name schema)
             × (built_components b ≡ record (built_components self) { schemas = held })) }
         ensures key { IfErr result (λ fault. fault ≡ KeyIsReference → T.described ≡ None) }
     {
-        let referred = referred_schemas::<T>(alloc)?.into_iter();
+        let referred = referred_schemas::<T>(alloc)?;
         self.schemas_from_iter(referred)?.schema_from::<T>(alloc)
     }
 
@@ -103,14 +106,14 @@ impl ComponentsBuilder {
     /// to end.
     ///
     /// Fails where memory runs out, and then gives up what was built.
-    pub fn schemas_from_iter<I: Iterator<Item = (String, RefOr<Schema>)> + Drop>(
+    pub fn schemas_from_iter<I: IntoIterator<Item = (String, RefOr<Schema>)>>(
         mut self,
         schemas: I,
     ) -> Result<ComponentsBuilder, AllocError>
-        requires can { I.can_next schemas }
-        requires ends { IsFinite (I.remaining schemas) }
+        requires can { EachIterator I.into_iter_gives I.IntoIter.can_next schemas }
+        requires ends { EachIterator I.into_iter_gives (λ it. IsFinite (I.IntoIter.remaining it)) schemas }
         ensures { IfOk result (λ b. (given : Pairs (RefOr Schema)) × (held : PlacesByName Schema)
-            × Drains I.next_gives schemas given
+            × GivesAll I.into_iter_gives I.IntoIter.next_gives schemas given
             × (held.entries ≡ put_each given (built_components self).schemas.entries)
             × (built_components b ≡ record (built_components self) { schemas = held })) }
     {
@@ -153,14 +156,14 @@ impl ComponentsBuilder {
     /// to end.
     ///
     /// Fails where memory runs out, and then gives up what was built.
-    pub fn responses_from_iter<I: Iterator<Item = (String, RefOr<Response>)> + Drop>(
+    pub fn responses_from_iter<I: IntoIterator<Item = (String, RefOr<Response>)>>(
         mut self,
         responses: I,
     ) -> Result<ComponentsBuilder, AllocError>
-        requires can { I.can_next responses }
-        requires ends { IsFinite (I.remaining responses) }
+        requires can { EachIterator I.into_iter_gives I.IntoIter.can_next responses }
+        requires ends { EachIterator I.into_iter_gives (λ it. IsFinite (I.IntoIter.remaining it)) responses }
         ensures { IfOk result (λ b. (given : Pairs (RefOr Response)) × (held : PlacesByName Response)
-            × Drains I.next_gives responses given
+            × GivesAll I.into_iter_gives I.IntoIter.next_gives responses given
             × (held.entries ≡ put_each given (built_components self).responses.entries)
             × (built_components b ≡ record (built_components self) { responses = held })) }
     {
@@ -287,14 +290,14 @@ impl ComponentsBuilder {
     /// to end.
     ///
     /// Fails where memory runs out, and then gives up what was built.
-    pub fn media_types_from_iter<I: Iterator<Item = (String, RefOr<Content>)> + Drop>(
+    pub fn media_types_from_iter<I: IntoIterator<Item = (String, RefOr<Content>)>>(
         mut self,
         media_types: I,
     ) -> Result<ComponentsBuilder, AllocError>
-        requires can { I.can_next media_types }
-        requires ends { IsFinite (I.remaining media_types) }
+        requires can { EachIterator I.into_iter_gives I.IntoIter.can_next media_types }
+        requires ends { EachIterator I.into_iter_gives (λ it. IsFinite (I.IntoIter.remaining it)) media_types }
         ensures { IfOk result (λ b. (given : Pairs (RefOr Content)) × (held : PlacesByName Content)
-            × Drains I.next_gives media_types given
+            × GivesAll I.into_iter_gives I.IntoIter.next_gives media_types given
             × (held.entries ≡ put_each given (built_components self).media_types.entries)
             × (built_components b ≡ record (built_components self) { media_types = held })) }
     {
@@ -310,7 +313,8 @@ impl ComponentsBuilder {
         security_scheme: RefOr<SecurityScheme>,
     ) -> Result<ComponentsBuilder, AllocError>
         ensures { IfOk result (λ b. (held : PlacesByName SecurityScheme)
-            × (held.entries ≡ insert_entry string_cmp (built_components self).security_schemes.entries name security_scheme)
+            × (held.entries
+            ≡ insert_entry string_cmp (built_components self).security_schemes.entries name security_scheme)
             × (built_components b ≡ record (built_components self) { security_schemes = held })) }
     {
         drop(

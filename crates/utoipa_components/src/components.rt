@@ -1,12 +1,13 @@
 //! Components: the objects of a document that its other parts refer to.
 ghost use Rattle.std.specs.Prelude.{◌≡◌, OnOk, OnErr, string_cmp};
 ghost use Rattle.std.specs.BTreeMap.{insert_entry};
-ghost use Rattle.std.specs.Iterator.{IsFinite, Drains};
+ghost use Rattle.std.specs.Iterator.{IsFinite};
 ghost use Rattle.serde_json.specs.Data.{object};
 ghost use Rattle.serde_json.specs.View.{members_view};
 ghost use Rattle.utoipa_base.specs.Docs.{no_docs, doc};
 ghost use Rattle.utoipa_base.specs.Fill.{Pairs, put_each};
 ghost use Rattle.utoipa_base.specs.Kinds.{named, schema, components_object};
+ghost use Rattle.utoipa_base.specs.Lists.{EachIterator, GivesAll};
 ghost use Rattle.utoipa_base.specs.Reading.{read};
 ghost use Rattle.utoipa_base.specs.Reads.{Reads};
 ghost use Rattle.utoipa_base.specs.Values.{values};
@@ -124,7 +125,8 @@ impl Components {
         name: String,
         security_scheme: RefOr<SecurityScheme>,
     ) -> Result<(), AllocError>
-        ensures ok { OnOk result (HoldSchemes (insert_entry string_cmp self.old.security_schemes.entries name security_scheme) self.old self.new) }
+        ensures ok { OnOk result (HoldSchemes
+            (insert_entry string_cmp self.old.security_schemes.entries name security_scheme) self.old self.new) }
         ensures err { OnErr result (HoldSchemes self.old.security_schemes.entries self.old self.new) }
     {
         drop(self.security_schemes.insert(name, security_scheme)?);
@@ -135,12 +137,15 @@ impl Components {
     /// iterator has to end.
     ///
     /// Fails where memory runs out, and then nothing has changed.
-    pub fn add_security_schemes_from_iter<
-        I: Iterator<Item = (String, RefOr<SecurityScheme>)> + Drop,
-    >(&mut self, alloc: Global, security_schemes: I) -> Result<(), AllocError>
-        requires can { I.can_next security_schemes }
-        requires ends { IsFinite (I.remaining security_schemes) }
-        ensures ok { OnOk result ((given : Pairs (RefOr SecurityScheme)) × Drains I.next_gives security_schemes given
+    pub fn add_security_schemes_from_iter<I: IntoIterator<Item = (String, RefOr<SecurityScheme>)>>(
+        &mut self,
+        alloc: Global,
+        security_schemes: I,
+    ) -> Result<(), AllocError>
+        requires can { EachIterator I.into_iter_gives I.IntoIter.can_next security_schemes }
+        requires ends { EachIterator I.into_iter_gives (λ it. IsFinite (I.IntoIter.remaining it)) security_schemes }
+        ensures ok { OnOk result ((given : Pairs (RefOr SecurityScheme))
+            × GivesAll I.into_iter_gives I.IntoIter.next_gives security_schemes given
             × HoldSchemes (put_each given self.old.security_schemes.entries) self.old self.new) }
         ensures err { OnErr result (HoldSchemes self.old.security_schemes.entries self.old self.new) }
     {

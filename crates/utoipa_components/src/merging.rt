@@ -64,7 +64,8 @@ pub fn fill_components(
     alloc: Global,
     later: Option<Components>,
 ) -> Result<FilledComponents, AllocError>
-    ensures merged { OnOk result (AreComponentsMerged (option_of components_doc own.old ∷ option_of components_doc later ∷ []) (option_of components_doc own.new)) }
+    ensures merged { OnOk result (AreComponentsMerged
+        (option_of components_doc own.old ∷ option_of components_doc later ∷ []) (option_of components_doc own.new)) }
     ensures noted { IfOk result (λ filled. GoBack filled own.new own.old) }
     ensures err { OnErr result (option_of components_doc own.new ≡ option_of components_doc own.old) }
     ensures ordered { AreComponentsInOrder own.old → AreComponentsInOrder later → AreComponentsInOrder own.new }
@@ -90,7 +91,9 @@ fn filled_with(
     alloc: Global,
     later: Components,
 ) -> (Components, Result<FilledMaps, AllocError>)
-    ensures merged { OnOk result.1 (AreComponentsMerged (some_doc (components_doc standing) ∷ some_doc (components_doc later) ∷ []) (some_doc (components_doc result.0))) }
+    ensures merged { OnOk result.1 (AreComponentsMerged
+        (some_doc (components_doc standing) ∷ some_doc (components_doc later) ∷ [])
+        (some_doc (components_doc result.0))) }
     ensures noted { IfOk result.1 (λ filled. EntriesGoBack filled result.0 standing) }
     ensures err { OnErr result.1 (components_doc result.0 ≡ components_doc standing) }
     ensures ordered { AreComponentsInOrder (Some standing) → AreComponentsInOrder (Some result.0) }

@@ -350,7 +350,7 @@ pub struct ServerVariableBuilder {
 
 impl ServerVariableBuilder {
     ghost use Rattle.std.specs.Iterator.{IsFinite};
-    ghost use Rattle.utoipa_base.specs.Lists.{IsFilledIfAny};
+    ghost use Rattle.utoipa_base.specs.Lists.{EachIterator, IsFilledIfAny};
     ghost use Rattle.utoipa_leaf.specs.Server.{empty_server_variable, built_server_variable, Values};
 
     /// Begins with a variable whose value is the empty text, with nothing else. Takes no memory.
@@ -388,14 +388,16 @@ impl ServerVariableBuilder {
     /// Sets the values that the variable may have. The iterator has to end.
     ///
     /// Fails where memory runs out, and then gives up what was built.
-    pub fn enum_values<I: Iterator<Item = String> + Drop>(
+    pub fn enum_values<I: IntoIterator<Item = String>>(
         mut self,
         alloc: Global,
         enum_values: Option<I>,
     ) -> Result<ServerVariableBuilder, AllocError>
-        requires can { ForSome enum_values (λ values. I.can_next values) }
-        requires ends { ForSome enum_values (λ values. IsFinite (I.remaining values)) }
-        ensures { IfOk result (λ b. (listed : Option Values) × IsFilledIfAny I.next_gives enum_values listed
+        requires can { ForSome enum_values (EachIterator I.into_iter_gives I.IntoIter.can_next) }
+        requires ends { ForSome enum_values (EachIterator I.into_iter_gives
+            (λ it. IsFinite (I.IntoIter.remaining it))) }
+        ensures { IfOk result (λ b. (listed : Option Values)
+            × IsFilledIfAny I.into_iter_gives I.IntoIter.next_gives enum_values listed
             × (built_server_variable b ≡ record (built_server_variable self) { enum_values = listed })) }
     {
         self.variable.enum_values = list_if_any(alloc, enum_values)?;

@@ -1,10 +1,10 @@
 //! Contents of media types.
 ghost use Rattle.std.specs.Prelude.{◌≡◌, None, IfOk, string_cmp};
 ghost use Rattle.std.specs.BTreeMap.{insert_entry};
-ghost use Rattle.std.specs.Iterator.{IsFinite, Drains};
+ghost use Rattle.std.specs.Iterator.{IsFinite};
 ghost use Rattle.utoipa_base.specs.Fill.{IsBoxedIfAny, Pairs, put_each};
 ghost use Rattle.utoipa_base.specs.declared.refs.RefOr.{RefOr};
-ghost use Rattle.utoipa_base.specs.Lists.{IsFilledFrom};
+ghost use Rattle.utoipa_base.specs.Lists.{EachIterator, GivesAll, IsFilledFrom};
 ghost use Rattle.utoipa_leaf.specs.declared.example.Example.{Example};
 ghost use Rattle.utoipa_media.specs.Builders.{built_content, IsContentPlace, IsContentOf, Examples, Encodings, ItemEncodings};
 ghost use Rattle.utoipa_media.specs.declared.types.Content.{out-Content};
@@ -97,14 +97,14 @@ impl ContentBuilder {
     /// Puts each of the examples under its name, in place of an earlier one of that name. The iterator has to end.
     ///
     /// Fails where memory runs out, and then gives up what was built.
-    pub fn examples_from_iter<I: Iterator<Item = (String, RefOr<Example>)> + Drop>(
+    pub fn examples_from_iter<I: IntoIterator<Item = (String, RefOr<Example>)>>(
         mut self,
         examples: I,
     ) -> Result<ContentBuilder, AllocError>
-        requires can { I.can_next examples }
-        requires ends { IsFinite (I.remaining examples) }
+        requires can { EachIterator I.into_iter_gives I.IntoIter.can_next examples }
+        requires ends { EachIterator I.into_iter_gives (λ it. IsFinite (I.IntoIter.remaining it)) examples }
         ensures { IfOk result (λ b. (given : Pairs (RefOr Example)) × (held : Examples)
-            × Drains I.next_gives examples given
+            × GivesAll I.into_iter_gives I.IntoIter.next_gives examples given
             × (held.entries ≡ put_each given (built_content self).examples.entries)
             × (built_content b ≡ record (built_content self) { examples = held })) }
     {
@@ -130,14 +130,15 @@ impl ContentBuilder {
     /// Sets how each of the first items is encoded. The iterator has to end.
     ///
     /// Fails where memory runs out, and then gives up what was built.
-    pub fn prefix_encoding<I: Iterator<Item = Encoding> + Drop>(
+    pub fn prefix_encoding<I: IntoIterator<Item = Encoding>>(
         mut self,
         alloc: Global,
         prefix_encoding: I,
     ) -> Result<ContentBuilder, AllocError>
-        requires can { I.can_next prefix_encoding }
-        requires ends { IsFinite (I.remaining prefix_encoding) }
-        ensures { IfOk result (λ b. (listed : ItemEncodings) × IsFilledFrom I.next_gives prefix_encoding listed
+        requires can { EachIterator I.into_iter_gives I.IntoIter.can_next prefix_encoding }
+        requires ends { EachIterator I.into_iter_gives (λ it. IsFinite (I.IntoIter.remaining it)) prefix_encoding }
+        ensures { IfOk result (λ b. (listed : ItemEncodings)
+            × IsFilledFrom I.into_iter_gives I.IntoIter.next_gives prefix_encoding listed
             × (built_content b ≡ record (built_content self) { prefix_encoding = listed })) }
     {
         set_list(&mut self.content.prefix_encoding, alloc, prefix_encoding).and(Ok(self))

@@ -3,7 +3,7 @@ ghost use Rattle.std.specs.Prelude.{◌≡◌, IfOk, string_cmp};
 ghost use Rattle.std.specs.BTreeMap.{insert_entry};
 ghost use Rattle.std.specs.Iterator.{IsFinite};
 ghost use Rattle.utoipa_base.specs.Fill.{IsBoxedIfAny};
-ghost use Rattle.utoipa_base.specs.Lists.{IsFilledFrom};
+ghost use Rattle.utoipa_base.specs.Lists.{EachIterator, IsFilledFrom};
 ghost use Rattle.utoipa_media.specs.Builders.{built_encoding, header_place, header_reference, IsEmptyEncoding, Encodings, Headers, ItemEncodings};
 ghost use Rattle.utoipa_media.specs.declared.types.Encoding.{out-Encoding};
 
@@ -125,14 +125,15 @@ impl EncodingBuilder {
     /// Sets how each of the first items is encoded. The iterator has to end.
     ///
     /// Fails where memory runs out, and then gives up what was built.
-    pub fn prefix_encoding<I: Iterator<Item = Encoding> + Drop>(
+    pub fn prefix_encoding<I: IntoIterator<Item = Encoding>>(
         mut self,
         alloc: Global,
         prefix_encoding: I,
     ) -> Result<EncodingBuilder, AllocError>
-        requires can { I.can_next prefix_encoding }
-        requires ends { IsFinite (I.remaining prefix_encoding) }
-        ensures { IfOk result (λ b. (listed : ItemEncodings) × IsFilledFrom I.next_gives prefix_encoding listed
+        requires can { EachIterator I.into_iter_gives I.IntoIter.can_next prefix_encoding }
+        requires ends { EachIterator I.into_iter_gives (λ it. IsFinite (I.IntoIter.remaining it)) prefix_encoding }
+        ensures { IfOk result (λ b. (listed : ItemEncodings)
+            × IsFilledFrom I.into_iter_gives I.IntoIter.next_gives prefix_encoding listed
             × (built_encoding b ≡ record (built_encoding self) { prefix_encoding = listed })) }
     {
         set_list(&mut self.encoding.prefix_encoding, alloc, prefix_encoding).and(Ok(self))

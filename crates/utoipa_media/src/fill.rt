@@ -3,7 +3,7 @@ ghost use Rattle.std.specs.Prelude.{◌≡◌, ◌++◌, [], ◌∷◌, Option, 
 ghost use Rattle.std.specs.Iterator.{IsFinite};
 ghost use Rattle.utoipa_base.specs.Docs.{Doc};
 ghost use Rattle.utoipa_base.specs.Faults.{Refuses};
-ghost use Rattle.utoipa_base.specs.Lists.{IsFilledFrom};
+ghost use Rattle.utoipa_base.specs.Lists.{EachIterator, IsFilledFrom};
 ghost use Rattle.utoipa_media.specs.Fill.{PutsUnderCopy};
 
 use std::alloc::{AllocError, Global};
@@ -12,14 +12,14 @@ use std::mem;
 use utoipa_base::{ReadFault, list_from};
 
 /// Sets a list to all that an iterator gives. The iterator has to end. Fails where memory runs out, and then the list is what it was.
-pub(crate) fn set_list<T: Drop, I: Iterator<Item = T> + Drop>(
+pub(crate) fn set_list<T: Drop, I: IntoIterator<Item = T>>(
     list: &mut Vec<T>,
     alloc: Global,
     items: I,
 ) -> Result<(), AllocError>
-    requires can { I.can_next items }
-    requires ends { IsFinite (I.remaining items) }
-    ensures ok { OnOk result (IsFilledFrom I.next_gives items list.new) }
+    requires can { EachIterator I.into_iter_gives I.IntoIter.can_next items }
+    requires ends { EachIterator I.into_iter_gives (λ it. IsFinite (I.IntoIter.remaining it)) items }
+    ensures ok { OnOk result (IsFilledFrom I.into_iter_gives I.IntoIter.next_gives items list.new) }
     ensures err { OnErr result (list.new ≡ list.old) }
 {
     drop(mem::replace(list, list_from(alloc, items)?));

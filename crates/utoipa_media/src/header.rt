@@ -1,8 +1,9 @@
 //! Headers of responses and of the parts of contents.
 ghost use Rattle.std.specs.Prelude.{◌≡◌, IfOk, string_cmp};
 ghost use Rattle.std.specs.BTreeMap.{insert_entry};
-ghost use Rattle.std.specs.Iterator.{IsFinite, Drains};
+ghost use Rattle.std.specs.Iterator.{IsFinite};
 ghost use Rattle.utoipa_base.specs.Fill.{Pairs, put_each};
+ghost use Rattle.utoipa_base.specs.Lists.{EachIterator, GivesAll};
 ghost use Rattle.utoipa_base.specs.declared.refs.RefOr.{RefOr};
 ghost use Rattle.utoipa_leaf.specs.declared.example.Example.{Example};
 ghost use Rattle.utoipa_media.specs.Builders.{built_header, IsHeaderOf, IsStringHeader, Contents, Examples};
@@ -114,14 +115,14 @@ impl HeaderBuilder {
     /// Puts each of the examples under its name, in place of an earlier one of that name. The iterator has to end.
     ///
     /// Fails where memory runs out, and then gives up what was built.
-    pub fn examples_from_iter<I: Iterator<Item = (String, RefOr<Example>)> + Drop>(
+    pub fn examples_from_iter<I: IntoIterator<Item = (String, RefOr<Example>)>>(
         mut self,
         examples: I,
     ) -> Result<HeaderBuilder, AllocError>
-        requires can { I.can_next examples }
-        requires ends { IsFinite (I.remaining examples) }
+        requires can { EachIterator I.into_iter_gives I.IntoIter.can_next examples }
+        requires ends { EachIterator I.into_iter_gives (λ it. IsFinite (I.IntoIter.remaining it)) examples }
         ensures { IfOk result (λ b. (given : Pairs (RefOr Example)) × (held : Examples)
-            × Drains I.next_gives examples given
+            × GivesAll I.into_iter_gives I.IntoIter.next_gives examples given
             × (held.entries ≡ put_each given (built_header self).examples.entries)
             × (built_header b ≡ record (built_header self) { examples = held })) }
     {
@@ -147,14 +148,14 @@ impl HeaderBuilder {
     /// to end.
     ///
     /// Fails where memory runs out, and then gives up what was built.
-    pub fn content_from_iter<I: Iterator<Item = (String, RefOr<Content>)> + Drop>(
+    pub fn content_from_iter<I: IntoIterator<Item = (String, RefOr<Content>)>>(
         mut self,
         contents: I,
     ) -> Result<HeaderBuilder, AllocError>
-        requires can { I.can_next contents }
-        requires ends { IsFinite (I.remaining contents) }
+        requires can { EachIterator I.into_iter_gives I.IntoIter.can_next contents }
+        requires ends { EachIterator I.into_iter_gives (λ it. IsFinite (I.IntoIter.remaining it)) contents }
         ensures { IfOk result (λ b. (given : Pairs (RefOr Content)) × (held : Contents)
-            × Drains I.next_gives contents given
+            × GivesAll I.into_iter_gives I.IntoIter.next_gives contents given
             × (held.entries ≡ put_each given (built_header self).content.entries)
             × (built_header b ≡ record (built_header self) { content = held })) }
     {

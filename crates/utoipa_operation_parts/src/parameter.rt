@@ -1,10 +1,11 @@
 //! Parameters of operations.
 ghost use Rattle.std.specs.Prelude.{◌≡◌, IfOk, false, option_map, string_cmp};
 ghost use Rattle.std.specs.BTreeMap.{insert_entry};
-ghost use Rattle.std.specs.Iterator.{IsFinite, Drains};
+ghost use Rattle.std.specs.Iterator.{IsFinite};
 ghost use Rattle.serde_json.specs.View.{view};
 ghost use Rattle.utoipa_base.specs.Fill.{Pairs, put_each};
 ghost use Rattle.utoipa_base.specs.Kinds.{named, parameter_object};
+ghost use Rattle.utoipa_base.specs.Lists.{EachIterator, GivesAll};
 ghost use Rattle.utoipa_base.specs.declared.refs.RefOr.{RefOr};
 ghost use Rattle.utoipa_media.specs.Builders.{Contents};
 ghost use Rattle.utoipa_media.specs.declared.types.Content.{Content};
@@ -243,14 +244,14 @@ impl ParameterBuilder {
     /// Puts each of the contents under its media type, in place of an earlier one of that type. The iterator has to end.
     ///
     /// Fails where memory runs out, and then gives up what was built.
-    pub fn contents_from_iter<I: Iterator<Item = (String, RefOr<Content>)> + Drop>(
+    pub fn contents_from_iter<I: IntoIterator<Item = (String, RefOr<Content>)>>(
         mut self,
         contents: I,
     ) -> Result<ParameterBuilder, AllocError>
-        requires can { I.can_next contents }
-        requires ends { IsFinite (I.remaining contents) }
+        requires can { EachIterator I.into_iter_gives I.IntoIter.can_next contents }
+        requires ends { EachIterator I.into_iter_gives (λ it. IsFinite (I.IntoIter.remaining it)) contents }
         ensures { IfOk result (λ b. (given : Pairs (RefOr Content)) × (held : Contents)
-            × Drains I.next_gives contents given
+            × GivesAll I.into_iter_gives I.IntoIter.next_gives contents given
             × (held.entries ≡ put_each given (built_parameter self).content.entries)
             × (built_parameter b ≡ record (built_parameter self) { content = held })) }
     {

@@ -1,10 +1,11 @@
 //! Responses of operations.
 ghost use Rattle.std.specs.Prelude.{◌≡◌, [], IfOk, OnOk, false, string_cmp, string_eq};
 ghost use Rattle.std.specs.BTreeMap.{insert_entry};
-ghost use Rattle.std.specs.Iterator.{IsFinite, Drains};
+ghost use Rattle.std.specs.Iterator.{IsFinite};
 ghost use Rattle.indexmap.specs.IndexMap.{insert_entry as insert_in_order};
 ghost use Rattle.utoipa_base.specs.Fill.{Pairs, put_each};
 ghost use Rattle.utoipa_base.specs.Kinds.{named, response_object};
+ghost use Rattle.utoipa_base.specs.Lists.{EachIterator, GivesAll};
 ghost use Rattle.utoipa_base.specs.Tables.{responses as responses_kind};
 ghost use Rattle.utoipa_base.specs.declared.refs.RefOr.{RefOr};
 ghost use Rattle.utoipa_media.specs.Builders.{Headers, content_place, content_reference, header_place, header_reference};
@@ -354,13 +355,14 @@ impl Responses {
 
     /// The responses under their names; of two of a name the later one stays. The iterator has to end. Fails where memory runs
     /// out.
-    pub fn from_pairs<I: Iterator<Item = (String, RefOr<Response>)> + Drop>(
+    pub fn from_pairs<I: IntoIterator<Item = (String, RefOr<Response>)>>(
         alloc: Global,
         pairs: I,
     ) -> Result<Responses, AllocError>
-        requires can { I.can_next pairs }
-        requires ends { IsFinite (I.remaining pairs) }
-        ensures { IfOk result (λ made. (given : Pairs (RefOr Response)) × Drains I.next_gives pairs given
+        requires can { EachIterator I.into_iter_gives I.IntoIter.can_next pairs }
+        requires ends { EachIterator I.into_iter_gives (λ it. IsFinite (I.IntoIter.remaining it)) pairs }
+        ensures { IfOk result (λ made. (given : Pairs (RefOr Response))
+            × GivesAll I.into_iter_gives I.IntoIter.next_gives pairs given
             × AreResponses (put_each given []) made) }
     {
         let mut responses = BTreeMap::new(alloc);
@@ -376,6 +378,22 @@ impl Responses {
         ensures { IsEmptyResponses (built_responses result) }
     {
         ResponsesBuilder::new(alloc)
+    }
+}
+
+/// Responses are collected of their names and themselves, as by [`Responses::from_pairs`].
+impl FromIterator<(String, RefOr<Response>)> for Responses {
+    ghost use Rattle.utoipa_operation_parts.specs.Responses.{AreResponses};
+
+    type Alloc = Global;
+
+    ghost from_iter_gives = { λ pairs made. AreResponses (put_each pairs []) made };
+
+    fn from_iter<U: IntoIterator<Item = (String, RefOr<Response>)>>(
+        alloc: Global,
+        iter: U,
+    ) -> Result<Responses, AllocError> {
+        Responses::from_pairs(alloc, iter)
     }
 }
 
@@ -462,14 +480,14 @@ impl ResponsesBuilder {
     /// Puts each of the responses under its status code, in place of an earlier one of that code. The iterator has to end.
     ///
     /// Fails where memory runs out, and then gives up what was built.
-    pub fn responses_from_iter<I: Iterator<Item = (String, RefOr<Response>)> + Drop>(
+    pub fn responses_from_iter<I: IntoIterator<Item = (String, RefOr<Response>)>>(
         mut self,
         responses: I,
     ) -> Result<ResponsesBuilder, AllocError>
-        requires can { I.can_next responses }
-        requires ends { IsFinite (I.remaining responses) }
+        requires can { EachIterator I.into_iter_gives I.IntoIter.can_next responses }
+        requires ends { EachIterator I.into_iter_gives (λ it. IsFinite (I.IntoIter.remaining it)) responses }
         ensures { IfOk result (λ b. (given : Pairs (RefOr Response)) × (held : ByStatus)
-            × Drains I.next_gives responses given
+            × GivesAll I.into_iter_gives I.IntoIter.next_gives responses given
             × (held.entries ≡ put_each given (built_responses self).responses.entries)
             × (built_responses b ≡ record (built_responses self) { responses = held })) }
     {

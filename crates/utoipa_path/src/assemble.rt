@@ -36,7 +36,8 @@ pub(crate) fn assemble_operation(
     readings: &mut Readings,
 ) -> Result<Operation, ReadFault>
     ensures { (start : ℕ)
-        → Reads {A = CallbacksOf PathItem} (field (row (codes "callbacks") defaulted (map_of (ref_or callback))) (view tree.now))
+        → Reads {A = CallbacksOf PathItem}
+        (field (row (codes "callbacks") defaulted (map_of (ref_or callback))) (view tree.now))
         callbacks_doc (Ok callbacks) start readings.old (values_at (codes "callbacks") (view tree.now))
         → Reads (read (named operation_object) (view tree.now)) operation_doc result
         start readings.new (values (view tree.now)) }

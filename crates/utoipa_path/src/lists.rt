@@ -1,7 +1,8 @@
 //! Lists that may be absent, and lists of what stands where a reference could.
 ghost use Rattle.std.specs.Prelude.{◌≡◌, ◌++◌, List, IfOk, OnOk, map};
-ghost use Rattle.std.specs.Iterator.{IsFinite, Drains};
+ghost use Rattle.std.specs.Iterator.{IsFinite};
 ghost use Rattle.std.specs.Option.{ForSome};
+ghost use Rattle.utoipa_base.specs.Lists.{EachIterator, GivesAll};
 ghost use Rattle.utoipa_base.specs.declared.refs.Ref.{Ref};
 ghost use Rattle.utoipa_path.specs.Lists.{IsOneMore, IsExtendedIfAny, ArePlacesIfAny, AreReferencesIfAny, own_place, reference_place};
 
@@ -25,14 +26,14 @@ pub(crate) fn add_one<T: Drop>(
 
 /// Adds each value that an iterator gives to a list of what stands where a reference could; where there is no iterator, there is no
 /// list then. The iterator has to end. Fails where memory runs out, and then gives up the list.
-pub(crate) fn add_places_or_clear<T: Drop, I: Iterator<Item = T> + Drop>(
+pub(crate) fn add_places_or_clear<T: Drop, I: IntoIterator<Item = T>>(
     list: &mut Option<Vec<RefOr<T>>>,
     alloc: Global,
     items: Option<I>,
 ) -> Result<(), AllocError>
-    requires can { ForSome items (λ it. I.can_next it) }
-    requires ends { ForSome items (λ it. IsFinite (I.remaining it)) }
-    ensures { OnOk result (IsExtendedIfAny I.next_gives list.old items list.new) }
+    requires can { ForSome items (EachIterator I.into_iter_gives I.IntoIter.can_next) }
+    requires ends { ForSome items (EachIterator I.into_iter_gives (λ it. IsFinite (I.IntoIter.remaining it))) }
+    ensures { OnOk result (IsExtendedIfAny I.into_iter_gives I.IntoIter.next_gives list.old items list.new) }
 {
     let standing = list.take();
     match items {
@@ -48,13 +49,13 @@ pub(crate) fn add_places_or_clear<T: Drop, I: Iterator<Item = T> + Drop>(
 
 /// Adds each value that an iterator gives to a list of what stands where a reference could. The iterator has to end. Fails
 /// where memory runs out, and then some were added.
-fn add_places<T: Drop, I: Iterator<Item = T> + Drop>(
+fn add_places<T: Drop, I: IntoIterator<Item = T>>(
     list: &mut Vec<RefOr<T>>,
     items: I,
 ) -> Result<(), AllocError>
-    requires can { I.can_next items }
-    requires ends { IsFinite (I.remaining items) }
-    ensures { OnOk result ((given : _) × Drains I.next_gives items given
+    requires can { EachIterator I.into_iter_gives I.IntoIter.can_next items }
+    requires ends { EachIterator I.into_iter_gives (λ it. IsFinite (I.IntoIter.remaining it)) items }
+    ensures { OnOk result ((given : _) × GivesAll I.into_iter_gives I.IntoIter.next_gives items given
         × (list.new.items ≡ list.old.items ++ map own_place given)) }
 {
     for item in items {
@@ -65,13 +66,13 @@ fn add_places<T: Drop, I: Iterator<Item = T> + Drop>(
 
 /// The list of all values that an iterator gives, each where a reference could stand; none where there is no iterator. The iterator
 /// has to end. Fails where memory runs out.
-pub(crate) fn places_if_any<T: Drop, I: Iterator<Item = T> + Drop>(
+pub(crate) fn places_if_any<T: Drop, I: IntoIterator<Item = T>>(
     alloc: Global,
     items: Option<I>,
 ) -> Result<Option<Vec<RefOr<T>>>, AllocError>
-    requires can { ForSome items (λ it. I.can_next it) }
-    requires ends { ForSome items (λ it. IsFinite (I.remaining it)) }
-    ensures { IfOk result (λ list. ArePlacesIfAny I.next_gives items list) }
+    requires can { ForSome items (EachIterator I.into_iter_gives I.IntoIter.can_next) }
+    requires ends { ForSome items (EachIterator I.into_iter_gives (λ it. IsFinite (I.IntoIter.remaining it))) }
+    ensures { IfOk result (λ list. ArePlacesIfAny I.into_iter_gives I.IntoIter.next_gives items list) }
 {
     let mut list = None;
     add_places_or_clear(&mut list, alloc, items)?;
@@ -80,13 +81,13 @@ pub(crate) fn places_if_any<T: Drop, I: Iterator<Item = T> + Drop>(
 
 /// The list of all references that an iterator gives, each where a value could stand; none where there is no iterator. The iterator
 /// has to end. Fails where memory runs out.
-pub(crate) fn references_if_any<T: Drop, I: Iterator<Item = Ref> + Drop>(
+pub(crate) fn references_if_any<T: Drop, I: IntoIterator<Item = Ref>>(
     alloc: Global,
     references: Option<I>,
 ) -> Result<Option<Vec<RefOr<T>>>, AllocError>
-    requires can { ForSome references (λ it. I.can_next it) }
-    requires ends { ForSome references (λ it. IsFinite (I.remaining it)) }
-    ensures { IfOk result (λ list. AreReferencesIfAny I.next_gives references list) }
+    requires can { ForSome references (EachIterator I.into_iter_gives I.IntoIter.can_next) }
+    requires ends { ForSome references (EachIterator I.into_iter_gives (λ it. IsFinite (I.IntoIter.remaining it))) }
+    ensures { IfOk result (λ list. AreReferencesIfAny I.into_iter_gives I.IntoIter.next_gives references list) }
 {
     match references {
         Some(references) => Ok(Some(list_of_references(alloc, references)?)),
@@ -96,13 +97,14 @@ pub(crate) fn references_if_any<T: Drop, I: Iterator<Item = Ref> + Drop>(
 
 /// The list of all references that an iterator gives, each where a value could stand. The iterator has to end. Fails where
 /// memory runs out.
-fn list_of_references<T: Drop, I: Iterator<Item = Ref> + Drop>(
+fn list_of_references<T: Drop, I: IntoIterator<Item = Ref>>(
     alloc: Global,
     references: I,
 ) -> Result<Vec<RefOr<T>>, AllocError>
-    requires can { I.can_next references }
-    requires ends { IsFinite (I.remaining references) }
-    ensures { IfOk result (λ list. (given : List Ref) × Drains I.next_gives references given
+    requires can { EachIterator I.into_iter_gives I.IntoIter.can_next references }
+    requires ends { EachIterator I.into_iter_gives (λ it. IsFinite (I.IntoIter.remaining it)) references }
+    ensures { IfOk result (λ list. (given : List Ref)
+        × GivesAll I.into_iter_gives I.IntoIter.next_gives references given
         × (list.items ≡ map reference_place given)) }
 {
     let mut list = Vec::new(alloc);

@@ -1,10 +1,10 @@
 //! Operations of paths.
 ghost use Rattle.std.specs.Prelude.{◌≡◌, IfOk, Some, option_map, string_cmp};
 ghost use Rattle.std.specs.BTreeMap.{insert_entry};
-ghost use Rattle.std.specs.Iterator.{IsFinite, Drains};
+ghost use Rattle.std.specs.Iterator.{IsFinite};
 ghost use Rattle.std.specs.Option.{ForSome};
 ghost use Rattle.utoipa_base.specs.Fill.{Pairs, put_each};
-ghost use Rattle.utoipa_base.specs.Lists.{IsFilledIfAny};
+ghost use Rattle.utoipa_base.specs.Lists.{EachIterator, GivesAll, IsFilledIfAny};
 ghost use Rattle.utoipa_base.specs.declared.refs.RefOr.{RefOr};
 ghost use Rattle.utoipa_operation_parts.specs.Responses.{ByStatus};
 ghost use Rattle.utoipa_path.specs.Builders.{built_operation, IsEmptyOperation, Callback, Callbacks};
@@ -69,14 +69,14 @@ impl OperationBuilder {
     /// Sets the names of the tags that group the operation. The iterator has to end.
     ///
     /// Fails where memory runs out, and then gives up what was built.
-    pub fn tags<I: Iterator<Item = String> + Drop>(
+    pub fn tags<I: IntoIterator<Item = String>>(
         mut self,
         alloc: Global,
         tags: Option<I>,
     ) -> Result<OperationBuilder, AllocError>
-        requires can { ForSome tags (λ it. I.can_next it) }
-        requires ends { ForSome tags (λ it. IsFinite (I.remaining it)) }
-        ensures { IfOk result (λ b. (listed : _) × IsFilledIfAny I.next_gives tags listed
+        requires can { ForSome tags (EachIterator I.into_iter_gives I.IntoIter.can_next) }
+        requires ends { ForSome tags (EachIterator I.into_iter_gives (λ it. IsFinite (I.IntoIter.remaining it))) }
+        ensures { IfOk result (λ b. (listed : _) × IsFilledIfAny I.into_iter_gives I.IntoIter.next_gives tags listed
             × (built_operation b ≡ record (built_operation self) { tags = listed })) }
     {
         let tags = list_if_any(alloc, tags);
@@ -120,15 +120,17 @@ impl OperationBuilder {
     /// Adds each of some parameters to those that stand; with `None` there are no parameters any more. The iterator has to end.
     ///
     /// Fails where memory runs out, and then gives up what was built.
-    pub fn parameters<I: Iterator<Item = Parameter> + Drop>(
+    pub fn parameters<I: IntoIterator<Item = Parameter>>(
         mut self,
         alloc: Global,
         parameters: Option<I>,
     ) -> Result<OperationBuilder, AllocError>
-        requires can { ForSome parameters (λ it. I.can_next it) }
-        requires ends { ForSome parameters (λ it. IsFinite (I.remaining it)) }
+        requires can { ForSome parameters (EachIterator I.into_iter_gives I.IntoIter.can_next) }
+        requires ends { ForSome parameters (EachIterator I.into_iter_gives
+            (λ it. IsFinite (I.IntoIter.remaining it))) }
         ensures { IfOk result (λ b. (listed : _)
-            × IsExtendedIfAny I.next_gives (built_operation self).parameters parameters listed
+            × IsExtendedIfAny I.into_iter_gives I.IntoIter.next_gives
+            (built_operation self).parameters parameters listed
             × (built_operation b ≡ record (built_operation self) { parameters = listed })) }
     {
         add_places_or_clear(&mut self.operation.parameters, alloc, parameters).and(Ok(self))
@@ -207,7 +209,8 @@ impl OperationBuilder {
         ensures { IfOk result (λ b. (held : ByStatus)
             × (held.entries ≡ insert_entry string_cmp (built_operation self).responses.responses.entries code response)
             × (built_operation b
-            ≡ record (built_operation self) { responses = record (built_operation self).responses { responses = held } })) }
+            ≡ record
+            (built_operation self) { responses = record (built_operation self).responses { responses = held } })) }
     {
         put(&mut self.operation.responses.responses, code, response).and(Ok(self))
     }
@@ -230,14 +233,14 @@ impl OperationBuilder {
     /// Puts each of the callbacks under its name, in place of an earlier one of that name. The iterator has to end.
     ///
     /// Fails where memory runs out, and then gives up what was built.
-    pub fn callbacks_from_iter<I: Iterator<Item = (String, RefOr<Callback>)> + Drop>(
+    pub fn callbacks_from_iter<I: IntoIterator<Item = (String, RefOr<Callback>)>>(
         mut self,
         callbacks: I,
     ) -> Result<OperationBuilder, AllocError>
-        requires can { I.can_next callbacks }
-        requires ends { IsFinite (I.remaining callbacks) }
+        requires can { EachIterator I.into_iter_gives I.IntoIter.can_next callbacks }
+        requires ends { EachIterator I.into_iter_gives (λ it. IsFinite (I.IntoIter.remaining it)) callbacks }
         ensures { IfOk result (λ b. (given : Pairs (RefOr Callback)) × (held : Callbacks)
-            × Drains I.next_gives callbacks given
+            × GivesAll I.into_iter_gives I.IntoIter.next_gives callbacks given
             × (held.entries ≡ put_each given (built_operation self).callbacks.entries)
             × (built_operation b ≡ record (built_operation self) { callbacks = held })) }
     {
@@ -255,14 +258,16 @@ impl OperationBuilder {
     /// Sets the security requirements of the operation. The iterator has to end.
     ///
     /// Fails where memory runs out, and then gives up what was built.
-    pub fn securities<I: Iterator<Item = SecurityRequirement> + Drop>(
+    pub fn securities<I: IntoIterator<Item = SecurityRequirement>>(
         mut self,
         alloc: Global,
         securities: Option<I>,
     ) -> Result<OperationBuilder, AllocError>
-        requires can { ForSome securities (λ it. I.can_next it) }
-        requires ends { ForSome securities (λ it. IsFinite (I.remaining it)) }
-        ensures { IfOk result (λ b. (listed : _) × IsFilledIfAny I.next_gives securities listed
+        requires can { ForSome securities (EachIterator I.into_iter_gives I.IntoIter.can_next) }
+        requires ends { ForSome securities (EachIterator I.into_iter_gives
+            (λ it. IsFinite (I.IntoIter.remaining it))) }
+        ensures { IfOk result (λ b. (listed : _)
+            × IsFilledIfAny I.into_iter_gives I.IntoIter.next_gives securities listed
             × (built_operation b ≡ record (built_operation self) { security = listed })) }
     {
         let security = list_if_any(alloc, securities);
@@ -286,14 +291,14 @@ impl OperationBuilder {
     /// Sets the servers of the operation. The iterator has to end.
     ///
     /// Fails where memory runs out, and then gives up what was built.
-    pub fn servers<I: Iterator<Item = Server> + Drop>(
+    pub fn servers<I: IntoIterator<Item = Server>>(
         mut self,
         alloc: Global,
         servers: Option<I>,
     ) -> Result<OperationBuilder, AllocError>
-        requires can { ForSome servers (λ it. I.can_next it) }
-        requires ends { ForSome servers (λ it. IsFinite (I.remaining it)) }
-        ensures { IfOk result (λ b. (listed : _) × IsFilledIfAny I.next_gives servers listed
+        requires can { ForSome servers (EachIterator I.into_iter_gives I.IntoIter.can_next) }
+        requires ends { ForSome servers (EachIterator I.into_iter_gives (λ it. IsFinite (I.IntoIter.remaining it))) }
+        ensures { IfOk result (λ b. (listed : _) × IsFilledIfAny I.into_iter_gives I.IntoIter.next_gives servers listed
             × (built_operation b ≡ record (built_operation self) { servers = listed })) }
     {
         let servers = list_if_any(alloc, servers);

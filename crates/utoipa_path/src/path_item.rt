@@ -1,10 +1,10 @@
 //! The operations of paths.
 ghost use Rattle.std.specs.Prelude.{◌≡◌, ◌∷◌, [], List, IfOk, OnOk, OnErr, string_cmp, codes};
 ghost use Rattle.std.specs.BTreeMap.{insert_entry};
-ghost use Rattle.std.specs.Iterator.{IsFinite, Drains};
+ghost use Rattle.std.specs.Iterator.{IsFinite};
 ghost use Rattle.std.specs.Option.{ForSome};
 ghost use Rattle.utoipa_base.specs.Fill.{Pairs, put_each};
-ghost use Rattle.utoipa_base.specs.Lists.{IsFilledIfAny};
+ghost use Rattle.utoipa_base.specs.Lists.{EachIterator, GivesAll, IsFilledIfAny};
 ghost use Rattle.utoipa_leaf.specs.declared.path.HttpMethod.{HttpMethod};
 ghost use Rattle.utoipa_merging.specs.Merged.{IsItemMerged, IsInOrder};
 ghost use Rattle.utoipa_merging.specs.Slots.{field_at};
@@ -43,15 +43,15 @@ impl PathItem {
 
     /// An item with a copy of an operation at each of some methods, of which nothing else is said. The iterator has to end. Fails
     /// where memory runs out.
-    pub fn from_http_methods<I: Iterator<Item = HttpMethod> + Drop>(
+    pub fn from_http_methods<I: IntoIterator<Item = HttpMethod>>(
         alloc: Global,
         methods: I,
         operation: Operation,
     ) -> Result<PathItem, AllocError>
-        requires can { I.can_next methods }
-        requires ends { IsFinite (I.remaining methods) }
+        requires can { EachIterator I.into_iter_gives I.IntoIter.can_next methods }
+        requires ends { EachIterator I.into_iter_gives (λ it. IsFinite (I.IntoIter.remaining it)) methods }
         ensures { IfOk result (λ item. (given : List HttpMethod) × (empty : PathItemFields)
-            × Drains I.next_gives methods given
+            × GivesAll I.into_iter_gives I.IntoIter.next_gives methods given
             × IsEmptyPathItem empty × HoldAtMethods given (operation_doc operation) empty (out-PathItem item)) }
     {
         let mut item = empty_path_item(alloc);
@@ -72,7 +72,8 @@ impl PathItem {
     ///
     /// Fails where memory runs out, and then nothing has changed.
     pub fn merge_operations(&mut self, alloc: Global, other: PathItem) -> Result<(), AllocError>
-        ensures ok { OnOk result (IsItemMerged (path_item_doc self.old ∷ path_item_doc other ∷ []) (path_item_doc self.new)) }
+        ensures ok { OnOk result (IsItemMerged (path_item_doc self.old ∷ path_item_doc other ∷ [])
+            (path_item_doc self.new)) }
         ensures err { OnErr result (path_item_doc self.new ≡ path_item_doc self.old) }
         ensures ordered { IsInOrder (field_at (codes "additionalOperations") (path_item_doc self.old))
             → IsInOrder (field_at (codes "additionalOperations") (path_item_doc self.new)) }
@@ -94,15 +95,15 @@ impl PathItem {
 }
 
 // Sets a copy of the operation at each of the methods. Where memory runs out, some may be set.
-fn set_copies<I: Iterator<Item = HttpMethod> + Drop>(
+fn set_copies<I: IntoIterator<Item = HttpMethod>>(
     item: &mut PathItem,
     alloc: Global,
     methods: I,
     operation: &Operation,
 ) -> Result<(), AllocError>
-    requires can { I.can_next methods }
-    requires ends { IsFinite (I.remaining methods) }
-    ensures { OnOk result ((given : List HttpMethod) × Drains I.next_gives methods given
+    requires can { EachIterator I.into_iter_gives I.IntoIter.can_next methods }
+    requires ends { EachIterator I.into_iter_gives (λ it. IsFinite (I.IntoIter.remaining it)) methods }
+    ensures { OnOk result ((given : List HttpMethod) × GivesAll I.into_iter_gives I.IntoIter.next_gives methods given
         × HoldAtMethods given (operation_doc operation.now) (out-PathItem item.old) (out-PathItem item.new)) }
 {
     for method in methods {
@@ -186,7 +187,8 @@ impl PathItemBuilder {
         operation: Operation,
     ) -> Result<PathItemBuilder, AllocError>
         ensures { IfOk result (λ b. (held : Operations)
-            × (held.entries ≡ insert_entry string_cmp (built_path_item self).additional_operations.entries method operation)
+            × (held.entries
+            ≡ insert_entry string_cmp (built_path_item self).additional_operations.entries method operation)
             × (built_path_item b ≡ record (built_path_item self) { additional_operations = held })) }
     {
         put(&mut self.item.additional_operations, method, operation).and(Ok(self))
@@ -195,14 +197,14 @@ impl PathItemBuilder {
     /// Puts each of the operations under the name of its method, in place of an earlier one of that name. The iterator has to end.
     ///
     /// Fails where memory runs out, and then gives up what was built.
-    pub fn additional_operations<I: Iterator<Item = (String, Operation)> + Drop>(
+    pub fn additional_operations<I: IntoIterator<Item = (String, Operation)>>(
         mut self,
         operations: I,
     ) -> Result<PathItemBuilder, AllocError>
-        requires can { I.can_next operations }
-        requires ends { IsFinite (I.remaining operations) }
+        requires can { EachIterator I.into_iter_gives I.IntoIter.can_next operations }
+        requires ends { EachIterator I.into_iter_gives (λ it. IsFinite (I.IntoIter.remaining it)) operations }
         ensures { IfOk result (λ b. (given : Pairs Operation) × (held : Operations)
-            × Drains I.next_gives operations given
+            × GivesAll I.into_iter_gives I.IntoIter.next_gives operations given
             × (held.entries ≡ put_each given (built_path_item self).additional_operations.entries)
             × (built_path_item b ≡ record (built_path_item self) { additional_operations = held })) }
     {
@@ -228,14 +230,14 @@ impl PathItemBuilder {
     /// Sets the servers of the operations that have none of their own. The iterator has to end.
     ///
     /// Fails where memory runs out, and then gives up what was built.
-    pub fn servers<I: Iterator<Item = Server> + Drop>(
+    pub fn servers<I: IntoIterator<Item = Server>>(
         mut self,
         alloc: Global,
         servers: Option<I>,
     ) -> Result<PathItemBuilder, AllocError>
-        requires can { ForSome servers (λ it. I.can_next it) }
-        requires ends { ForSome servers (λ it. IsFinite (I.remaining it)) }
-        ensures { IfOk result (λ b. (listed : _) × IsFilledIfAny I.next_gives servers listed
+        requires can { ForSome servers (EachIterator I.into_iter_gives I.IntoIter.can_next) }
+        requires ends { ForSome servers (EachIterator I.into_iter_gives (λ it. IsFinite (I.IntoIter.remaining it))) }
+        ensures { IfOk result (λ b. (listed : _) × IsFilledIfAny I.into_iter_gives I.IntoIter.next_gives servers listed
             × (built_path_item b ≡ record (built_path_item self) { servers = listed })) }
     {
         let servers = list_if_any(alloc, servers);
@@ -245,14 +247,16 @@ impl PathItemBuilder {
     /// Sets the parameters that all operations of the path have. The iterator has to end.
     ///
     /// Fails where memory runs out, and then gives up what was built.
-    pub fn parameters<I: Iterator<Item = Parameter> + Drop>(
+    pub fn parameters<I: IntoIterator<Item = Parameter>>(
         mut self,
         alloc: Global,
         parameters: Option<I>,
     ) -> Result<PathItemBuilder, AllocError>
-        requires can { ForSome parameters (λ it. I.can_next it) }
-        requires ends { ForSome parameters (λ it. IsFinite (I.remaining it)) }
-        ensures { IfOk result (λ b. (listed : _) × ArePlacesIfAny I.next_gives parameters listed
+        requires can { ForSome parameters (EachIterator I.into_iter_gives I.IntoIter.can_next) }
+        requires ends { ForSome parameters (EachIterator I.into_iter_gives
+            (λ it. IsFinite (I.IntoIter.remaining it))) }
+        ensures { IfOk result (λ b. (listed : _)
+            × ArePlacesIfAny I.into_iter_gives I.IntoIter.next_gives parameters listed
             × (built_path_item b ≡ record (built_path_item self) { parameters = listed })) }
     {
         let parameters = places_if_any(alloc, parameters);
@@ -262,14 +266,16 @@ impl PathItemBuilder {
     /// Sets references to the parameters that all operations of the path have. The iterator has to end.
     ///
     /// Fails where memory runs out, and then gives up what was built.
-    pub fn parameter_refs<I: Iterator<Item = Ref> + Drop>(
+    pub fn parameter_refs<I: IntoIterator<Item = Ref>>(
         mut self,
         alloc: Global,
         references: Option<I>,
     ) -> Result<PathItemBuilder, AllocError>
-        requires can { ForSome references (λ it. I.can_next it) }
-        requires ends { ForSome references (λ it. IsFinite (I.remaining it)) }
-        ensures { IfOk result (λ b. (listed : _) × AreReferencesIfAny I.next_gives references listed
+        requires can { ForSome references (EachIterator I.into_iter_gives I.IntoIter.can_next) }
+        requires ends { ForSome references (EachIterator I.into_iter_gives
+            (λ it. IsFinite (I.IntoIter.remaining it))) }
+        ensures { IfOk result (λ b. (listed : _)
+            × AreReferencesIfAny I.into_iter_gives I.IntoIter.next_gives references listed
             × (built_path_item b ≡ record (built_path_item self) { parameters = listed })) }
     {
         let parameters = references_if_any(alloc, references);

@@ -192,7 +192,8 @@ fn fill_query(
         (option_of operation_doc) (Ok operation) readings.old readings.new (values_at (codes "query") (view tree.now))
         × (out-PathItem item.new ≡ record (out-PathItem item.old) { query = operation })) }
     ensures err { IfErr result
-        (λ e. Reads {A = Option Operation} (field (row (codes "query") optional (named operation_object)) (view tree.now))
+        (λ e. Reads {A = Option Operation}
+        (field (row (codes "query") optional (named operation_object)) (view tree.now))
         (option_of operation_doc) (Err e) readings.old readings.new (values_at (codes "query") (view tree.now))) }
 {
     let operation = read_method(alloc, tree, "query", readings)?;
@@ -209,12 +210,15 @@ fn fill_additional_operations(
     readings: &mut Readings,
 ) -> Result<(), ReadFault>
     ensures ok { OnOk result ((operations : Operations)
-        × Reads {A = Operations} (field (row (codes "additionalOperations") defaulted (map_of (named operation_object))) (view tree.now))
-        (map_of_docs operation_doc) (Ok operations) readings.old readings.new (values_at (codes "additionalOperations") (view tree.now))
+        × Reads {A = Operations}
+        (field (row (codes "additionalOperations") defaulted (map_of (named operation_object))) (view tree.now))
+        (map_of_docs operation_doc) (Ok operations) readings.old readings.new
+        (values_at (codes "additionalOperations") (view tree.now))
         × (out-PathItem item.new ≡ record (out-PathItem item.old) { additional_operations = operations })) }
     ensures err { IfErr result (λ e. Reads {A = Operations}
         (field (row (codes "additionalOperations") defaulted (map_of (named operation_object))) (view tree.now))
-        (map_of_docs operation_doc) (Err e) readings.old readings.new (values_at (codes "additionalOperations") (view tree.now))) }
+        (map_of_docs operation_doc) (Err e) readings.old readings.new
+        (values_at (codes "additionalOperations") (view tree.now))) }
 {
     let operations = read_additional_operations(alloc, tree, readings)?;
     drop(mem::replace(&mut item.additional_operations, operations));
@@ -251,7 +255,8 @@ fn read_additional_operations(
     tree: &Value,
     readings: &mut Readings,
 ) -> Result<BTreeMap<String, Operation>, ReadFault>
-    ensures { Reads (field (row (codes "additionalOperations") defaulted (map_of (named operation_object))) (view tree.now))
+    ensures { Reads
+        (field (row (codes "additionalOperations") defaulted (map_of (named operation_object))) (view tree.now))
         (map_of_docs operation_doc) result
         readings.old readings.new (values_at (codes "additionalOperations") (view tree.now)) }
 {

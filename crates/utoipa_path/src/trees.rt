@@ -69,7 +69,8 @@ pub fn read_callback(
     tree: &Value,
     readings: &mut Readings,
 ) -> Result<Callback, ReadFault>
-    ensures { Reads (read_as ⟦<BTreeMap<String, RefOr<PathItem>> as Documented>⟧.kind (view tree.now)) ⟦<BTreeMap<String, RefOr<PathItem>> as Documented>⟧.doc result
+    ensures { Reads (read_as ⟦<BTreeMap<String, RefOr<PathItem>> as Documented>⟧.kind (view tree.now))
+        ⟦<BTreeMap<String, RefOr<PathItem>> as Documented>⟧.doc result
         readings.old readings.new (values (view tree.now)) }
 {
     read::read_callback(alloc, tree, readings)
@@ -83,7 +84,8 @@ pub fn read_ref_or_callback(
     tree: &Value,
     readings: &mut Readings,
 ) -> Result<RefOr<Callback>, ReadFault>
-    ensures { Reads (read_as ⟦<RefOr<BTreeMap<String, RefOr<PathItem>>> as Documented>⟧.kind (view tree.now)) ⟦<RefOr<BTreeMap<String, RefOr<PathItem>>> as Documented>⟧.doc result
+    ensures { Reads (read_as ⟦<RefOr<BTreeMap<String, RefOr<PathItem>>> as Documented>⟧.kind (view tree.now))
+        ⟦<RefOr<BTreeMap<String, RefOr<PathItem>>> as Documented>⟧.doc result
         readings.old readings.new (values (view tree.now)) }
 {
     read::read_ref_or_callback(alloc, tree, readings)
@@ -97,7 +99,8 @@ pub fn read_operation_map(
     tree: &Value,
     readings: &mut Readings,
 ) -> Result<BTreeMap<String, Operation>, ReadFault>
-    ensures { Reads (read_as ⟦<BTreeMap<String, Operation> as Documented>⟧.kind (view tree.now)) ⟦<BTreeMap<String, Operation> as Documented>⟧.doc result
+    ensures { Reads (read_as ⟦<BTreeMap<String, Operation> as Documented>⟧.kind (view tree.now))
+        ⟦<BTreeMap<String, Operation> as Documented>⟧.doc result
         readings.old readings.new (values (view tree.now)) }
 {
     read::read_operation_map(alloc, tree, readings)

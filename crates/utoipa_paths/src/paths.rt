@@ -88,7 +88,7 @@ impl Paths {
         ensures err { OnErr result (paths_doc self.new ≡ paths_doc self.old) }
         ensures ordered { ArePathsInOrder (paths_doc self.old) → ArePathsInOrder (paths_doc self.new) }
     {
-        let item = PathItem::from_http_methods(alloc, methods.into_iter(), operation)?;
+        let item = PathItem::from_http_methods(alloc, methods, operation)?;
         match self.paths.get_mut(path) {
             Some(standing) => {
                 take_operations(standing, alloc, item);

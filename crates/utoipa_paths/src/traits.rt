@@ -40,5 +40,5 @@ pub(crate) fn item_from<P: Path>(alloc: Global) -> Result<PathItem, AllocError>
 {
     let methods = P::methods(alloc)?;
     let operation = P::operation(alloc)?;
-    PathItem::from_http_methods(alloc, methods.into_iter(), operation)
+    PathItem::from_http_methods(alloc, methods, operation)
 }

@@ -2,7 +2,7 @@
 ghost use Rattle.std.specs.Prelude.{◌≡◌, IfOk};
 ghost use Rattle.std.specs.Iterator.{IsFinite};
 ghost use Rattle.utoipa_base.specs.Fill.{IsBoxedIfAny};
-ghost use Rattle.utoipa_base.specs.Lists.{IsFilledFrom};
+ghost use Rattle.utoipa_base.specs.Lists.{EachIterator, IsFilledFrom};
 ghost use Rattle.utoipa_base.specs.declared.refs.Ref.{Ref};
 ghost use Rattle.utoipa_base.specs.declared.refs.RefOr.{RefOr};
 ghost use Rattle.utoipa_schema.specs.declared.types.Schema.{Schema};
@@ -137,14 +137,15 @@ impl ArrayBuilder {
     /// Sets the schema of each of the first items. The iterator has to end.
     ///
     /// Fails where memory runs out, and then gives up what was built.
-    pub fn prefix_items<I: Iterator<Item = Schema> + Drop>(
+    pub fn prefix_items<I: IntoIterator<Item = Schema>>(
         mut self,
         alloc: Global,
         prefix_items: I,
     ) -> Result<ArrayBuilder, AllocError>
-        requires can { I.can_next prefix_items }
-        requires ends { IsFinite (I.remaining prefix_items) }
-        ensures { IfOk result (λ b. (listed : Schemas) × IsFilledFrom I.next_gives prefix_items listed
+        requires can { EachIterator I.into_iter_gives I.IntoIter.can_next prefix_items }
+        requires ends { EachIterator I.into_iter_gives (λ it. IsFinite (I.IntoIter.remaining it)) prefix_items }
+        ensures { IfOk result (λ b. (listed : Schemas)
+            × IsFilledFrom I.into_iter_gives I.IntoIter.next_gives prefix_items listed
             × (built_array b ≡ record (built_array self) { prefix_items = listed })) }
     {
         let prefix_items = list_from(alloc, prefix_items);
@@ -178,14 +179,15 @@ impl ArrayBuilder {
     /// Sets the examples of the value. The iterator has to end.
     ///
     /// Fails where memory runs out, and then gives up what was built.
-    pub fn examples<I: Iterator<Item = Value> + Drop>(
+    pub fn examples<I: IntoIterator<Item = Value>>(
         mut self,
         alloc: Global,
         examples: I,
     ) -> Result<ArrayBuilder, AllocError>
-        requires can { I.can_next examples }
-        requires ends { IsFinite (I.remaining examples) }
-        ensures { IfOk result (λ b. (listed : Values) × IsFilledFrom I.next_gives examples listed
+        requires can { EachIterator I.into_iter_gives I.IntoIter.can_next examples }
+        requires ends { EachIterator I.into_iter_gives (λ it. IsFinite (I.IntoIter.remaining it)) examples }
+        ensures { IfOk result (λ b. (listed : Values)
+            × IsFilledFrom I.into_iter_gives I.IntoIter.next_gives examples listed
             × (built_array b ≡ record (built_array self) { examples = listed })) }
     {
         let examples = list_from(alloc, examples);

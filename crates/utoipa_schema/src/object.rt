@@ -4,7 +4,7 @@ ghost use Rattle.std.specs.BTreeMap.{insert_entry};
 ghost use Rattle.std.specs.Iterator.{IsFinite};
 ghost use Rattle.std.specs.Option.{ForSome};
 ghost use Rattle.utoipa_base.specs.Fill.{IsBoxedIfAny};
-ghost use Rattle.utoipa_base.specs.Lists.{IsFilledFrom, IsFilledIfAny};
+ghost use Rattle.utoipa_base.specs.Lists.{EachIterator, IsFilledFrom, IsFilledIfAny};
 ghost use Rattle.utoipa_schema.specs.Builders.{built_object, built_array, object_place, one_object, one_array, IsEmptyObject, IsArrayOf, IsEmptySchema, Texts, Values, Properties};
 
 use crate::array::ArrayBuilder;
@@ -140,14 +140,16 @@ impl ObjectBuilder {
     /// Sets the values that are allowed: the member `enum`. The iterator has to end.
     ///
     /// Fails where memory runs out, and then gives up what was built.
-    pub fn enum_values<I: Iterator<Item = Value> + Drop>(
+    pub fn enum_values<I: IntoIterator<Item = Value>>(
         mut self,
         alloc: Global,
         enum_values: Option<I>,
     ) -> Result<ObjectBuilder, AllocError>
-        requires can { ForSome enum_values (λ values. I.can_next values) }
-        requires ends { ForSome enum_values (λ values. IsFinite (I.remaining values)) }
-        ensures { IfOk result (λ b. (listed : Option Values) × IsFilledIfAny I.next_gives enum_values listed
+        requires can { ForSome enum_values (EachIterator I.into_iter_gives I.IntoIter.can_next) }
+        requires ends { ForSome enum_values (EachIterator I.into_iter_gives
+            (λ it. IsFinite (I.IntoIter.remaining it))) }
+        ensures { IfOk result (λ b. (listed : Option Values)
+            × IsFilledIfAny I.into_iter_gives I.IntoIter.next_gives enum_values listed
             × (built_object b ≡ record (built_object self) { enum_values = listed })) }
     {
         let enum_values = list_if_any(alloc, enum_values);
@@ -232,14 +234,15 @@ impl ObjectBuilder {
     /// Sets the examples of the value. The iterator has to end.
     ///
     /// Fails where memory runs out, and then gives up what was built.
-    pub fn examples<I: Iterator<Item = Value> + Drop>(
+    pub fn examples<I: IntoIterator<Item = Value>>(
         mut self,
         alloc: Global,
         examples: I,
     ) -> Result<ObjectBuilder, AllocError>
-        requires can { I.can_next examples }
-        requires ends { IsFinite (I.remaining examples) }
-        ensures { IfOk result (λ b. (listed : Values) × IsFilledFrom I.next_gives examples listed
+        requires can { EachIterator I.into_iter_gives I.IntoIter.can_next examples }
+        requires ends { EachIterator I.into_iter_gives (λ it. IsFinite (I.IntoIter.remaining it)) examples }
+        ensures { IfOk result (λ b. (listed : Values)
+            × IsFilledFrom I.into_iter_gives I.IntoIter.next_gives examples listed
             × (built_object b ≡ record (built_object self) { examples = listed })) }
     {
         let examples = list_from(alloc, examples);

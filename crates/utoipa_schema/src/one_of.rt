@@ -1,7 +1,7 @@
 //! Schemas with `oneOf`.
 ghost use Rattle.std.specs.Prelude.{◌≡◌, ◌++◌, ◌∷◌, [], Some, IfOk};
 ghost use Rattle.std.specs.Iterator.{IsFinite};
-ghost use Rattle.utoipa_base.specs.Lists.{IsFilledFrom};
+ghost use Rattle.utoipa_base.specs.Lists.{EachIterator, IsFilledFrom};
 ghost use Rattle.utoipa_schema.specs.Builders.{built_one_of, built_array, one_of_place, one_array, IsEmptyOneOf, IsArrayOf, Items, Values};
 
 use crate::array::ArrayBuilder;
@@ -125,14 +125,15 @@ impl OneOfBuilder {
     /// Sets the examples of the value. The iterator has to end.
     ///
     /// Fails where memory runs out, and then gives up what was built.
-    pub fn examples<I: Iterator<Item = Value> + Drop>(
+    pub fn examples<I: IntoIterator<Item = Value>>(
         mut self,
         alloc: Global,
         examples: I,
     ) -> Result<OneOfBuilder, AllocError>
-        requires can { I.can_next examples }
-        requires ends { IsFinite (I.remaining examples) }
-        ensures { IfOk result (λ b. (listed : Values) × IsFilledFrom I.next_gives examples listed
+        requires can { EachIterator I.into_iter_gives I.IntoIter.can_next examples }
+        requires ends { EachIterator I.into_iter_gives (λ it. IsFinite (I.IntoIter.remaining it)) examples }
+        ensures { IfOk result (λ b. (listed : Values)
+            × IsFilledFrom I.into_iter_gives I.IntoIter.next_gives examples listed
             × (built_one_of b ≡ record (built_one_of self) { examples = listed })) }
     {
         let examples = list_from(alloc, examples);

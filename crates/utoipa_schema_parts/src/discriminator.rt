@@ -1,7 +1,8 @@
 //! Discriminators between schemas.
 ghost use Rattle.std.specs.Prelude.{◌≡◌, [], None, IfOk};
-ghost use Rattle.std.specs.Iterator.{IsFinite, Drains};
+ghost use Rattle.std.specs.Iterator.{IsFinite};
 ghost use Rattle.utoipa_base.specs.Kinds.{named, discriminator_object};
+ghost use Rattle.utoipa_base.specs.Lists.{EachIterator, GivesAll};
 
 use serde_json::Value;
 use std::alloc::{AllocError, Global};
@@ -52,15 +53,16 @@ impl Discriminator {
 
     /// A discriminator by a property, with all that the iterator gives as its mapping: values of the property, each with
     /// its schema. The later of two equal values stays. The iterator has to end. Fails where memory runs out.
-    pub fn with_mapping<I: Iterator<Item = (String, String)> + Drop>(
+    pub fn with_mapping<I: IntoIterator<Item = (String, String)>>(
         alloc: Global,
         property_name: String,
         mapping: I,
     ) -> Result<Discriminator, AllocError>
-        requires can { I.can_next mapping }
-        requires ends { IsFinite (I.remaining mapping) }
+        requires can { EachIterator I.into_iter_gives I.IntoIter.can_next mapping }
+        requires ends { EachIterator I.into_iter_gives (λ it. IsFinite (I.IntoIter.remaining it)) mapping }
         ensures property { IfOk result (λ d. d.property_name ≡ property_name) }
-        ensures mapping { IfOk result (λ d. (given : Mapping) × Drains I.next_gives mapping given
+        ensures mapping { IfOk result (λ d. (given : Mapping)
+            × GivesAll I.into_iter_gives I.IntoIter.next_gives mapping given
             × (d.mapping.entries ≡ put_mapping given [])) }
         ensures extensions { IfOk result (λ d. d.extensions ≡ None) }
     {

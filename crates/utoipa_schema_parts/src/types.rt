@@ -5,7 +5,7 @@ ghost use Rattle.serde_json.specs.Find.{as_str, as_array};
 ghost use Rattle.serde_json.specs.View.{view};
 ghost use Rattle.utoipa_base.specs.Faults.{Refuses};
 ghost use Rattle.utoipa_base.specs.Kinds.{word_of, type_word, schema_type};
-ghost use Rattle.utoipa_base.specs.Lists.{IsFilledFrom};
+ghost use Rattle.utoipa_base.specs.Lists.{EachIterator, IsFilledFrom};
 ghost use Rattle.utoipa_base.specs.Reading.{read};
 ghost use Rattle.utoipa_base.specs.Values.{values};
 ghost use Rattle.utoipa_schema_parts.specs.Types.{TypeWords, schema_type_doc, schema_type_of_kind};
@@ -156,13 +156,14 @@ impl SchemaType {
 
     /// Values of any of the types that the iterator gives, in its order. The iterator has to end. Fails where memory runs
     /// out.
-    pub fn from_types<I: Iterator<Item = TypeWord> + Drop>(
+    pub fn from_types<I: IntoIterator<Item = TypeWord>>(
         alloc: Global,
         types: I,
     ) -> Result<SchemaType, AllocError>
-        requires can { I.can_next types }
-        requires ends { IsFinite (I.remaining types) }
-        ensures { IfOk result (λ t. (words : TypeWords) × IsFilledFrom I.next_gives types words
+        requires can { EachIterator I.into_iter_gives I.IntoIter.can_next types }
+        requires ends { EachIterator I.into_iter_gives (λ it. IsFinite (I.IntoIter.remaining it)) types }
+        ensures { IfOk result (λ t. (words : TypeWords)
+            × IsFilledFrom I.into_iter_gives I.IntoIter.next_gives types words
             × (t ≡ SchemaType.Array words)) }
     {
         Ok(SchemaType::Array(list_from(alloc, types)?))
@@ -173,6 +174,22 @@ impl SchemaType {
         ensures { IsTrue result ↔ (self.now ≡ SchemaType.AnyValue) }
     {
         matches!(self, SchemaType::AnyValue)
+    }
+}
+
+/// Types are collected to values of any of them, as by [`SchemaType::from_types`].
+impl FromIterator<TypeWord> for SchemaType {
+    ghost use Rattle.utoipa_schema_parts.specs.declared.types.SchemaType.{SchemaType};
+
+    type Alloc = Global;
+
+    ghost from_iter_gives = { λ types t. (words : TypeWords) × (words.items ≡ types) × (t ≡ SchemaType.Array words) };
+
+    fn from_iter<U: IntoIterator<Item = TypeWord>>(
+        alloc: Global,
+        iter: U,
+    ) -> Result<SchemaType, AllocError> {
+        SchemaType::from_types(alloc, iter)
     }
 }
 

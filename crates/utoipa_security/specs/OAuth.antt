@@ -2,7 +2,6 @@
 use Rattle.std.specs.Prelude.{◌≡◌, ℕ, List, [], ◌∷◌, Bool, true, false, if◌then◌else◌, Option, None, option_map, map, refl, String, string_bytes}
 use Rattle.std.specs.BTreeMap.{BTreeMap, insert_entry}
 use Rattle.std.specs.Cmp.Lexicographic.{slice_cmp}
-use Rattle.std.specs.Iterator.{Drains}
 use Rattle.std.specs.Ordering.{nat_cmp}
 use Rattle.std.specs.declared.alloc.Global.{Global}
 use Rattle.serde_json.specs.Data.{Data}
@@ -11,6 +10,7 @@ use Rattle.utoipa_base.specs.Docs.{Doc, flow_doc, table_doc, no_docs, doc}
 use Rattle.utoipa_base.specs.Extensions.{extensions_view}
 use Rattle.utoipa_base.specs.Flags.{deprecated_doc}
 use Rattle.utoipa_base.specs.Kinds.{ObjectType, named, text, flag, flows, oauth2_scheme, implicit_flow, password_flow, client_credentials_flow, authorization_code_flow, device_authorization_flow}
+use Rattle.utoipa_base.specs.Lists.{GivesAll}
 use Rattle.utoipa_base.specs.OfKind.{text_of_kind, option_of_kind, deprecated_of_kind, extends_of_kind, entries_of_kind, table_of_kind, next_row, no_rows}
 use Rattle.utoipa_base.specs.Reading.{reader, read_flow}
 use Rattle.utoipa_base.specs.Shape.{IsOf, value_of, flow_place}
@@ -104,9 +104,9 @@ abbrev pub put_flows : List Flow → List (List ℕ × Flow) → List (List ℕ 
 put_flows [] es = es
 put_flows (f ∷ fs) es = put_flows fs (insert_entry (slice_cmp nat_cmp) es (flow_key f) f)
 
--- a map holds each flow that an iterator gives under its key, and the later of two of one kind
-abbrev pub IsKeyedFrom : {S : Type 0} → (S → Option Flow → S → Type 0) → S → BTreeMap (String Global) Flow → Type 0
-IsKeyedFrom gives items m = (given : List Flow) × Drains gives items given × (by_key m.entries ≡ put_flows given [])
+-- a map holds each of some flows under its key, and the later of two of one kind
+abbrev pub IsKeyedFrom : {C S : Type 0} → (C → S → Type 0) → (S → Option Flow → S → Type 0) → C → BTreeMap (String Global) Flow → Type 0
+IsKeyedFrom into gives items m = (given : List Flow) × GivesAll into gives items given × (by_key m.entries ≡ put_flows given [])
 
 -- ---- a scheme by OAuth
 

@@ -7,6 +7,7 @@ ghost use Rattle.utoipa_base.specs.Faults.{Refuses};
 ghost use Rattle.utoipa_base.specs.Kinds.{named, required};
 ghost use Rattle.utoipa_base.specs.Kinds as kinds;
 ghost use Rattle.utoipa_base.specs.Events.{events};
+ghost use Rattle.utoipa_base.specs.Lists.{EachIterator};
 ghost use Rattle.utoipa_base.specs.Reading.{read};
 ghost use Rattle.utoipa_base.specs.Tables.{row};
 ghost use Rattle.utoipa_base.specs.Writing.{write};
@@ -263,13 +264,13 @@ pub(crate) fn clone_flows(
 }
 
 /// Each flow under the key of its kind. The later of two of one kind stays. Fails where memory runs out.
-pub(crate) fn keyed_flows<I: Iterator<Item = Flow> + Drop>(
+pub(crate) fn keyed_flows<I: IntoIterator<Item = Flow>>(
     alloc: Global,
     flows: I,
 ) -> Result<BTreeMap<String, Flow>, AllocError>
-    requires can { I.can_next flows }
-    requires ends { IsFinite (I.remaining flows) }
-    ensures { IfOk result (λ m. IsKeyedFrom I.next_gives flows m) }
+    requires can { EachIterator I.into_iter_gives I.IntoIter.can_next flows }
+    requires ends { EachIterator I.into_iter_gives (λ it. IsFinite (I.IntoIter.remaining it)) flows }
+    ensures { IfOk result (λ m. IsKeyedFrom I.into_iter_gives I.IntoIter.next_gives flows m) }
 {
     let mut map = BTreeMap::new(alloc);
     for flow in flows {

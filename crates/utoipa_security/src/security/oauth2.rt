@@ -4,6 +4,7 @@ ghost use Rattle.std.specs.Iterator.{IsFinite};
 ghost use Rattle.utoipa_base.specs.Docs.{tagged_doc};
 ghost use Rattle.utoipa_base.specs.Kinds.{named, oauth2_scheme};
 ghost use Rattle.utoipa_base.specs.Events.{events};
+ghost use Rattle.utoipa_base.specs.Lists.{EachIterator};
 ghost use Rattle.utoipa_base.specs.Writing.{write};
 
 use crate::security::flows::{Flow, keyed_flows};
@@ -50,13 +51,11 @@ impl OAuth2 {
 
     /// A scheme with flows, each under the key of its kind, where the later of two of one kind stays. The iterator has to
     /// end. Fails where memory runs out.
-    pub fn new<I: Iterator<Item = Flow> + Drop>(
-        alloc: Global,
-        flows: I,
-    ) -> Result<OAuth2, AllocError>
-        requires can { I.can_next flows }
-        requires ends { IsFinite (I.remaining flows) }
-        ensures { IfOk result (λ s. IsKeyedFrom I.next_gives flows s.flows × (s ≡ made_oauth2 s.flows None)) }
+    pub fn new<I: IntoIterator<Item = Flow>>(alloc: Global, flows: I) -> Result<OAuth2, AllocError>
+        requires can { EachIterator I.into_iter_gives I.IntoIter.can_next flows }
+        requires ends { EachIterator I.into_iter_gives (λ it. IsFinite (I.IntoIter.remaining it)) flows }
+        ensures { IfOk result (λ s. IsKeyedFrom I.into_iter_gives I.IntoIter.next_gives flows s.flows
+            × (s ≡ made_oauth2 s.flows None)) }
     {
         Ok(OAuth2 {
             flows: keyed_flows(alloc, flows)?,
@@ -68,14 +67,14 @@ impl OAuth2 {
     }
 
     /// As [`OAuth2::new`], with a description. The iterator has to end. Fails where memory runs out.
-    pub fn with_description<I: Iterator<Item = Flow> + Drop>(
+    pub fn with_description<I: IntoIterator<Item = Flow>>(
         alloc: Global,
         flows: I,
         description: String,
     ) -> Result<OAuth2, AllocError>
-        requires can { I.can_next flows }
-        requires ends { IsFinite (I.remaining flows) }
-        ensures { IfOk result (λ s. IsKeyedFrom I.next_gives flows s.flows
+        requires can { EachIterator I.into_iter_gives I.IntoIter.can_next flows }
+        requires ends { EachIterator I.into_iter_gives (λ it. IsFinite (I.IntoIter.remaining it)) flows }
+        ensures { IfOk result (λ s. IsKeyedFrom I.into_iter_gives I.IntoIter.next_gives flows s.flows
             × (s ≡ made_oauth2 s.flows (Some description))) }
     {
         Ok(OAuth2 {

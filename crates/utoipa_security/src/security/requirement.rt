@@ -2,7 +2,7 @@
 ghost use Rattle.std.specs.Prelude.{◌≡◌, ◌↔◌, [], ◌∷◌, IfOk, IsTrue, string_cmp};
 ghost use Rattle.std.specs.BTreeMap.{insert_entry};
 ghost use Rattle.std.specs.Iterator.{IsFinite};
-ghost use Rattle.utoipa_base.specs.Lists.{IsFilledFrom};
+ghost use Rattle.utoipa_base.specs.Lists.{EachIterator, IsFilledFrom};
 ghost use Rattle.utoipa_base.specs.Tables.{security_requirement};
 
 use serde_json::Value;
@@ -22,14 +22,15 @@ impl SecurityRequirement {
 
     /// The requirement of one scheme, with all that the iterator gives as its scopes. The iterator has to end. Fails
     /// where memory runs out.
-    pub fn new<I: Iterator<Item = String> + Drop>(
+    pub fn new<I: IntoIterator<Item = String>>(
         alloc: Global,
         name: String,
         scopes: I,
     ) -> Result<SecurityRequirement, AllocError>
-        requires can { I.can_next scopes }
-        requires ends { IsFinite (I.remaining scopes) }
-        ensures { IfOk result (λ r. (listed : ScopeNames) × IsFilledFrom I.next_gives scopes listed
+        requires can { EachIterator I.into_iter_gives I.IntoIter.can_next scopes }
+        requires ends { EachIterator I.into_iter_gives (λ it. IsFinite (I.IntoIter.remaining it)) scopes }
+        ensures { IfOk result (λ r. (listed : ScopeNames)
+            × IsFilledFrom I.into_iter_gives I.IntoIter.next_gives scopes listed
             × (requirement_entries r ≡ (name, listed) ∷ [])) }
     {
         let listed = list_from(alloc, scopes)?;
@@ -49,15 +50,16 @@ impl SecurityRequirement {
 
     /// Requires a scheme, with all that the iterator gives as its scopes, in place of those that it had. The iterator has
     /// to end. Fails where memory runs out, and then gives up the requirement.
-    pub fn add<I: Iterator<Item = String> + Drop>(
+    pub fn add<I: IntoIterator<Item = String>>(
         mut self,
         alloc: Global,
         name: String,
         scopes: I,
     ) -> Result<SecurityRequirement, AllocError>
-        requires can { I.can_next scopes }
-        requires ends { IsFinite (I.remaining scopes) }
-        ensures { IfOk result (λ r. (listed : ScopeNames) × IsFilledFrom I.next_gives scopes listed
+        requires can { EachIterator I.into_iter_gives I.IntoIter.can_next scopes }
+        requires ends { EachIterator I.into_iter_gives (λ it. IsFinite (I.IntoIter.remaining it)) scopes }
+        ensures { IfOk result (λ r. (listed : ScopeNames)
+            × IsFilledFrom I.into_iter_gives I.IntoIter.next_gives scopes listed
             × (requirement_entries r ≡ insert_entry string_cmp (requirement_entries self) name listed)) }
     {
         let listed = list_from(alloc, scopes)?;

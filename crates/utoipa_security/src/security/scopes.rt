@@ -1,7 +1,8 @@
 //! The scopes of an OAuth flow.
 ghost use Rattle.std.specs.Prelude.{◌≡◌, [], ◌∷◌, IfOk};
-ghost use Rattle.std.specs.Iterator.{IsFinite, Drains};
+ghost use Rattle.std.specs.Iterator.{IsFinite};
 ghost use Rattle.utoipa_base.specs.Kinds.{named, scopes_object, text, map_of, required};
+ghost use Rattle.utoipa_base.specs.Lists.{EachIterator, GivesAll};
 ghost use Rattle.utoipa_base.specs.Tables.{row};
 ghost use Rattle.utoipa_security.specs.Scopes.{scopes_member};
 
@@ -62,13 +63,14 @@ impl Scopes {
 
     /// The scopes with the given names and descriptions. The later of two equal names stays. The iterator has to end.
     /// Fails where memory runs out.
-    pub fn from_pairs<I: Iterator<Item = (String, String)> + Drop>(
+    pub fn from_pairs<I: IntoIterator<Item = (String, String)>>(
         alloc: Global,
         pairs: I,
     ) -> Result<Scopes, AllocError>
-        requires can { I.can_next pairs }
-        requires ends { IsFinite (I.remaining pairs) }
-        ensures { IfOk result (λ s. (given : Descriptions) × Drains I.next_gives pairs given
+        requires can { EachIterator I.into_iter_gives I.IntoIter.can_next pairs }
+        requires ends { EachIterator I.into_iter_gives (λ it. IsFinite (I.IntoIter.remaining it)) pairs }
+        ensures { IfOk result (λ s. (given : Descriptions)
+            × GivesAll I.into_iter_gives I.IntoIter.next_gives pairs given
             × (scopes_entries s ≡ put_descriptions given [])) }
     {
         let mut scopes = BTreeMap::new(alloc);
@@ -76,6 +78,22 @@ impl Scopes {
             drop(scopes.insert(scope, description)?);
         }
         Ok(Scopes { scopes })
+    }
+}
+
+/// Scopes are collected of their names and descriptions, as by [`Scopes::from_pairs`].
+impl FromIterator<(String, String)> for Scopes {
+    ghost use Rattle.utoipa_security.specs.Scopes.{scopes_entries, put_descriptions};
+
+    type Alloc = Global;
+
+    ghost from_iter_gives = { λ pairs s. scopes_entries s ≡ put_descriptions pairs [] };
+
+    fn from_iter<U: IntoIterator<Item = (String, String)>>(
+        alloc: Global,
+        iter: U,
+    ) -> Result<Scopes, AllocError> {
+        Scopes::from_pairs(alloc, iter)
     }
 }
 

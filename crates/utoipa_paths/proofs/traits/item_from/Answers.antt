@@ -12,7 +12,7 @@ returns-clause-item g c =
     let operation = operation_doc c.in_ok-operation.operation in
     IfOk-weaker c.from_http_methods.result _ _
     (λ item made.
-    let given = vector_drained c.into_iter.result methods.items made.0 c.into_iter.ensures.rest (c.into_iter.ensures.len ∙ methods.ok.0) made.2 in (
+    let given = vector_drained made.2.0 methods.items made.0 made.2.1.0 (made.2.1.1 ∙ methods.ok.0) made.2.2 in (
       operation,
       made.1,
       c.in_ok-operation.ensures,

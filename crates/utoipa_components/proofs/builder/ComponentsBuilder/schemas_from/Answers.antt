@@ -9,16 +9,16 @@ use Rattle.utoipa_components.proofs.builder.ComponentsBuilder.schemas_from.Goals
 
 pub returns-clause-ok : goal.returns-clause-ok
 returns-clause-ok g c =
-    let listed = c.in_ok-referred_schemas.field-0 in
+    let listed = c.in_ok-referred.referred in
     let others = c.in_ok-schemas_from_iter.ensures in
-    let given = vector_drained c.into_iter-referred.result listed.items others.0 c.into_iter-referred.ensures.rest (c.into_iter-referred.ensures.len ∙ listed.ok.0) others.2 in
+    let given = vector_drained others.2.0 listed.items others.0 others.2.1.0 (others.2.1.1 ∙ listed.ok.0) others.2.2 in
     IfOk-weaker c.schema_from.result _ _
     (λ b own. (
       others.0,
       own.0,
       own.1,
       own.2,
-      ap (pairs_of place_doc) given ∙ c.in_ok-referred_schemas.ensures,
+      ap (pairs_of place_doc) given ∙ c.in_ok-referred.ensures,
       own.3,
       own.4,
       own.5 ∙ ap (λ es. insert_entry string_cmp es own.0 own.1) (ap (λ (k : Components). k.schemas.entries) others.4 ∙ others.3),

@@ -26,7 +26,7 @@ written c q =
 pub returns-in-Some-clause-ok : goal.returns-in-Some-clause-ok
 returns-in-Some-clause-ok c =
     let made = c.in_ok-item.ensures in
-    let given = vector_drained c.into_iter.result c.args.methods.items made.0 c.into_iter.ensures.rest (c.into_iter.ensures.len ∙ c.args.methods.ok.0) made.2 in
+    let given = vector_drained made.2.0 c.args.methods.items made.0 made.2.1.0 (made.2.1.1 ∙ c.args.methods.ok.0) made.2.2 in
     record {
       now = c.take_operations.new.item;
       before = out-PathItem c.in-Some.standing.now;
@@ -51,7 +51,7 @@ returns-in-Some-clause-ordered c = λ before.
 pub returns-in-None-clause-ok : goal.returns-in-None-clause-ok
 returns-in-None-clause-ok c =
     let made = c.in_ok-item.ensures in
-    let given = vector_drained c.into_iter.result c.args.methods.items made.0 c.into_iter.ensures.rest (c.into_iter.ensures.len ∙ c.args.methods.ok.0) made.2 in
+    let given = vector_drained made.2.0 c.args.methods.items made.0 made.2.1.0 (made.2.1.1 ∙ c.args.methods.ok.0) made.2.2 in
     on_ok_weaker c.put_under.result
     (λ put.
     record {
