@@ -2,11 +2,7 @@
 use Rattle.std.proofs.Common.{◌≡◌, ◌≢◌, ◌∷◌, ◌++◌, ◌<◌, ◌⊎◌, ◌+◌, ℕ, zero, suc, List, [], Bool, true, length, map, take, get_or, inl, inr, Result, Ok, Err, IfErr, string_bytes, refl, sym, ap, ◌∙◌, subst, arith}
 use Rattle.std.proofs.lemmas.List.{map-append, take_more}
 use Rattle.std.specs.Result.{IsErrAnd}
-use Rattle.serde_json.specs.Data.{Data}
-use Rattle.serde_json.specs.View.{view}
-use Rattle.serde_json.specs.declared.value.Value.{Value}
 use Rattle.utoipa_base.specs.Docs.{Doc}
-use Rattle.utoipa_conflicts.specs.Deciders.{trees_of}
 use Rattle.utoipa_findings.specs.Sources.{IsSourceOf}
 use Rattle.utoipa_findings.specs.Told.{Tells, IsRefused}
 use Rattle.utoipa_findings.specs.Views.{names_of}
@@ -51,16 +47,6 @@ dropping ss ds told reads is some = record {
   lines = is ∙ ap (λ names. dropped_lines names ds) (sym (names_are ss));
   some = some;
 }
-
--- ---- the trees that documents are written as
-
--- one tree more
-pub trees_more : {D : Type 0} (f : D → Data) (ds : List D) (i : ℕ) (d : D) (vs ws : List Value) (v : Value) → trees_of vs ≡ map f (take i ds) → i < length ds → ws ≡ vs ++ v ∷ []
-    → view v ≡ f (get_or ds i d) → trees_of ws ≡ map f (take (i + 1) ds)
-trees_more f ds i d vs ws v before less put is =
-    let more : map f (take (i + 1) ds) ≡ map f (take i ds) ++ f (get_or ds i d) ∷ [] = ap (map f) (take_more ds i d less) ∙ map-append f (take i ds) (get_or ds i d ∷ []) in
-    let last : map f (take i ds) ++ view v ∷ [] ≡ map f (take i ds) ++ f (get_or ds i d) ∷ [] = ap (λ t. map f (take i ds) ++ t ∷ []) is in
-    ap trees_of put ∙ map-append view vs (v ∷ []) ∙ ap (λ ts. ts ++ view v ∷ []) before ∙ last ∙ sym more
 
 -- ---- what a refusal tells
 

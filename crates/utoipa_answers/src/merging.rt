@@ -1,8 +1,6 @@
 //! The answer of `merge`.
 ghost use Rattle.std.specs.Prelude.{◌≡◌, ◌≢◌, ◌⊎◌, ◌<◌, [], true, length, map, Some, IfOk, IfErr, string_bytes};
 ghost use Rattle.utoipa_answers.specs.Answers.{AreSourcesOf, IsDropping, IsMerge, IsOneRefused, dropped_lines, file_of};
-ghost use Rattle.utoipa_base.specs.Writing.{write};
-ghost use Rattle.utoipa_conflicts.specs.Deciders.{trees_of};
 ghost use Rattle.utoipa_findings.specs.Told.{Tells};
 ghost use Rattle.utoipa_findings.specs.Views.{names_of};
 ghost use Rattle.utoipa.specs.OpenApi.{openapi_doc};
@@ -10,11 +8,10 @@ ghost use Rattle.utoipa.specs.OpenApi.{openapi_doc};
 use crate::checking::document;
 use crate::layout::{Layout, written};
 use crate::nesting::or_memory;
-use serde_json::Value;
 use std::alloc::{AllocError, Global};
-use utoipa::Tree;
 use utoipa::openapi::{OpenApi, merge_all};
 use utoipa_base::beside;
+use utoipa_conflicts::trees_of_documents;
 use utoipa_findings::{Refusal, Source, conflict_lines};
 
 /// What documents are merged into, and what that drops.
@@ -36,17 +33,6 @@ fn documents_of(alloc: Global, sources: &[Source<'_>]) -> Result<Vec<OpenApi>, R
         documents.push(document(alloc, *source)?)?;
     }
     Ok(documents)
-}
-
-/// The trees that documents are written as. Fails where memory runs out.
-fn trees_of_documents(alloc: Global, documents: &[OpenApi]) -> Result<Vec<Value>, AllocError>
-    ensures { IfOk result (λ v. trees_of v.items ≡ map (λ d. write (openapi_doc d)) documents.now) }
-{
-    let mut trees = Vec::new(alloc);
-    for document in documents {
-        trees.push(document.to_value(alloc)?)?;
-    }
-    Ok(trees)
 }
 
 /// The lines of what merging the documents of some files drops. Fails where memory runs out.

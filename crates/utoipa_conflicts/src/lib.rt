@@ -30,4 +30,5 @@ pub use nested::tree_nested_conflicts;
 pub use same::is_same;
 pub use told::{
     DocumentConflict, document_conflicts, document_conflicts_behind, document_nested_conflicts,
+    trees_of_documents,
 };

@@ -54,7 +54,7 @@ fn all_in_text(
 }
 
 /// The trees that documents are written as. Fails where memory runs out.
-fn written<T: Tree>(alloc: Global, documents: &[T]) -> Result<Vec<Value>, AllocError>
+pub fn trees_of_documents<T: Tree>(alloc: Global, documents: &[T]) -> Result<Vec<Value>, AllocError>
     ensures { IfOk result (λ v. trees_of v.items ≡ map (λ d. write (T.doc d)) documents.now) }
 {
     let mut trees = Vec::new(alloc);
@@ -77,7 +77,7 @@ pub fn document_conflicts<T: Tree>(
     ensures lost { IfOk result (λ v. (d : Doc) → specs.AreMergedInto (map T.doc documents.now) d
         → specs.TellWhatIsLost (map T.doc documents.now) d (all_told v.items)) }
 {
-    let trees = written(alloc, documents)?;
+    let trees = trees_of_documents(alloc, documents)?;
     let conflicts = tree_conflicts(alloc, &trees)?;
     all_in_text(alloc, &conflicts)
 }
