@@ -148,6 +148,8 @@ CASES = [
     ("openapi-of ", 1, []),
     ("responses-from ", 1, ["refused: memory"]),
     ("component-from ", 1, ["refused: memory", "refused: out of memory"]),
+    ("schemas-from ", 1, ["refused: memory", "refused: out of memory"]),
+    ("own-schema\t", 4, []),
     # Look through a tree.
     ("misfits ", 2, ["no JSON"]),
     ("visits ", 1, ["no JSON"]),

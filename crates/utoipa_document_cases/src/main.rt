@@ -27,6 +27,8 @@
 //! | `openapi-of TYPE` | nothing | what the document of the type is written as, with its tags |
 //! | `responses-from TYPE` | a JSON text | what the responses are written as, once those of the type were put |
 //! | `component-from TYPE` | a JSON text | what the components are written as, once the schema or the response of the type was put |
+//! | `schemas-from TYPE` | a JSON text | what the components are written as, once the schema of the type was put, and those that it refers to |
+//! | `own-schema` | `fields`, `no fields`, `texts` or `reference` | what the schema is written as that is made of such |
 //! | `operations` | a JSON text, a document | the operations of its paths: of each the method, the path and the id, with `; ` behind it; `none` where there is none |
 //! | `operation-by-id ID` | a JSON text, a document | the operation of its paths that has the id, in the same way, or `none` |
 //! | `callbacks` | a number | `true`, where an operation in so many callbacks, one in the other, is kept |
@@ -49,6 +51,7 @@ mod listed;
 mod made;
 mod merged;
 mod nested;
+mod own;
 mod runs;
 mod types;
 
@@ -108,6 +111,8 @@ fn answer_by_type(alloc: Global, call: &Call<'_>) -> Result<String, AllocError> 
         "openapi-of" => made::document_of_type(alloc, call.subject()),
         "responses-from" => made::with_responses_of(alloc, call.subject(), call.given),
         "component-from" => made::with_component_of(alloc, call.subject(), call.given),
+        "schemas-from" => own::with_schemas_of(alloc, call.subject(), call.given),
+        "own-schema" => own::own_schema(alloc, call.given),
         _ => answer_to_question(alloc, call),
     }
 }

@@ -2,7 +2,8 @@
 use crate::shared::{came_to, is_text, is_written, is_written_first, read, text, two};
 use std::process::Abort;
 use utoipa::openapi::external_docs::ExternalDocs;
-use utoipa::openapi::{Components, Info, OpenApi, OpenApiBuilder, OpenApiVersion, Paths};
+use utoipa::openapi::{Components, Info, OpenApi, OpenApiBuilder, OpenApiVersion, Paths, Tag};
+use utoipa::{from_json, from_slice, to_json, to_pretty_json};
 
 // The info of a title and a version alone.
 fn info(rt: &(impl Abort + AllocGlobal)) -> Info {
@@ -51,14 +52,10 @@ fn a_document_is_described(rt: HostRuntime) {
     );
 }
 
-// In the order in which the items are given.
+// In the order in which the items are given, as an array or as an iterator.
 #[test]
 fn lists_of_a_document_are_set(rt: HostRuntime) {
-    let servers = two(
-        &rt,
-        read(&rt, r#"{"url":"b"}"#),
-        read(&rt, r#"{"url":"a"}"#),
-    );
+    let servers = [read(&rt, r#"{"url":"b"}"#), read(&rt, r#"{"url":"a"}"#)];
     let builder = OpenApi::builder(rt.alloc()).servers(rt.alloc(), Some(servers));
     let builder = builder.expect(&rt, "memory for servers");
     let tags = two(
@@ -107,4 +104,20 @@ fn a_document_is_written_as_a_text_and_read_from_it(rt: HostRuntime) {
         OpenApi::from_json(rt.alloc(), r#"{"openapi":"3.1.0","paths":{}}"#),
         "the member info is missing",
     );
+}
+
+// By the calls for any type.
+#[test]
+fn a_tag_is_written_as_a_text_and_read_from_it(rt: HostRuntime) {
+    let tag = r#"{"name":"é"}"#;
+    came_to(&rt, from_json::<Tag>(rt.alloc(), tag), tag);
+    came_to(&rt, from_slice::<Tag>(rt.alloc(), tag.as_bytes()), tag);
+    let no_text = from_slice::<Tag>(rt.alloc(), &[b'"', 0xff, b'"']);
+    came_to(&rt, no_text, "no JSON text");
+    let tag = read::<Tag>(&rt, tag);
+    let compact = to_json(rt.alloc(), &tag).expect(&rt, "memory for a text");
+    is_text(&rt, compact.as_str(), r#"{"name":"é"}"#);
+    let pretty = to_pretty_json(rt.alloc(), &tag);
+    let pretty = pretty.expect(&rt, "memory for a text");
+    is_text(&rt, pretty.as_str(), "{\n  \"name\": \"é\"\n}");
 }

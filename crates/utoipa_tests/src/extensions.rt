@@ -1,5 +1,5 @@
 //! Extensions: under which names they stand, which of two values stays, and where there are none.
-use crate::shared::{is_flag, is_number, is_tree, text, tree};
+use crate::shared::{is_flag, is_number, is_tree, text, tree, two};
 use serde_json::Value;
 use std::process::Abort;
 use utoipa_base::{Extensions, ExtensionsBuilder, is_extension_name, read_extensions};
@@ -20,8 +20,7 @@ fn added(
 fn pairs(rt: &(impl Abort + AllocGlobal), first: &str, second: &str) -> Extensions {
     let first = (text(rt, first), Value::from(1u64));
     let second = (text(rt, second), Value::from(2u64));
-    let given = Vec::from_array(rt.alloc(), [first, second]).expect(rt, "memory for pairs");
-    let made = Extensions::from_pairs(rt.alloc(), given.into_iter());
+    let made = Extensions::from_pairs(rt.alloc(), [first, second]);
     made.expect(rt, "memory for extensions")
 }
 
@@ -108,4 +107,14 @@ fn there_are_none_where_no_name_is_one(rt: HostRuntime) {
     is_flag(&rt, has_none(&rt, "{\"a\":1,\"url\":\"u\",\"y\":1}"), true);
     is_flag(&rt, has_none(&rt, "[]"), true);
     is_flag(&rt, has_none(&rt, "{\"a\":1,\"x-a\":1}"), false);
+}
+
+// As pairs are put, so that the later value of a name stays.
+#[test]
+fn extensions_are_collected(rt: HostRuntime) {
+    let first = (text(&rt, "x-a"), Value::from(1u64));
+    let later = (text(&rt, "x-a"), Value::from(2u64));
+    let made = two(&rt, first, later).collect::<Extensions>(rt.alloc());
+    let made = made.expect(&rt, "memory for extensions");
+    are_written(&rt, made, "{\"x-a\":2}");
 }

@@ -161,7 +161,9 @@ fn pairs(rt: &(impl Abort + AllocGlobal)) -> Vec<(String, RefOr<Response>)> {
 fn a_code_takes_its_later_response(rt: HostRuntime) {
     is_written(&rt, Responses::new(rt.alloc()), "{}");
     let expected = r##"{"200":{"description":"later"},"404":{"$ref":"#/404"}}"##;
-    let made = Responses::from_pairs(rt.alloc(), pairs(&rt).into_iter());
+    let made = Responses::from_pairs(rt.alloc(), pairs(&rt));
+    is_written(&rt, made.expect(&rt, "memory for responses"), expected);
+    let made = pairs(&rt).into_iter().collect::<Responses>(rt.alloc());
     is_written(&rt, made.expect(&rt, "memory for responses"), expected);
     let builder = Responses::builder(rt.alloc()).responses_from_iter(pairs(&rt).into_iter());
     let builder = builder

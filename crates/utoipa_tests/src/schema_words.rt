@@ -37,6 +37,8 @@ fn types_are_made_of_words(rt: HostRuntime) {
     let types = types.expect(&rt, "two types");
     assert_eq!(rt; types, read::<SchemaType>(&rt, r#"["string","null"]"#));
     is_written(&rt, types, r#"["string","null"]"#);
+    let types = words.iter().copied().collect::<SchemaType>(rt.alloc());
+    is_written(&rt, types.expect(&rt, "two types"), r#"["string","null"]"#);
     is_written(&rt, SchemaType::any(), "null");
 }
 

@@ -1,5 +1,5 @@
 //! The flows of OAuth as they are made, by what they are written as.
-use crate::shared::{extension, is_text, is_written, is_written_first, read, text};
+use crate::shared::{extension, is_text, is_written, is_written_first, read, text, two};
 use std::process::Abort;
 use utoipa_base::{Deprecated, Tree};
 use utoipa_security::security::{
@@ -37,11 +37,22 @@ fn scopes_are_made_and_compared(rt: HostRuntime) {
         let pair = (text(&rt, scope), text(&rt, description));
         pairs.push(pair).expect(&rt, "a pair");
     }
-    let scopes = Scopes::from_pairs(rt.alloc(), pairs.into_iter());
+    let scopes = Scopes::from_pairs(rt.alloc(), pairs);
     is_written(
         &rt,
         scopes.expect(&rt, "scopes"),
         r#"{"scopes":{"a":"2","b":"3"}}"#,
+    );
+    let pairs = two(
+        &rt,
+        (text(&rt, "b"), text(&rt, "1")),
+        (text(&rt, "a"), text(&rt, "2")),
+    );
+    let scopes = pairs.collect::<Scopes>(rt.alloc());
+    is_written(
+        &rt,
+        scopes.expect(&rt, "scopes"),
+        r#"{"scopes":{"a":"2","b":"1"}}"#,
     );
     let one = one_scope(&rt);
     assert!(rt; one == one.try_clone(rt.alloc()).expect(&rt, "a copy"));
