@@ -3,7 +3,7 @@ use Rattle.utoipa_base.specs.Docs.{some_doc, text_doc}
 use Rattle.utoipa_merging.specs.Slots.{field_at}
 use Rattle.utoipa_path.specs.Docs.{operation_layer, path_item_doc}
 use Rattle.utoipa_path.specs.Folds.{operation_is}
-use Rattle.example_gateway.proofs.own_document.LookUpPath.operation.Goals as goal
+use Rattle.examples_of_use.proofs.own_document.LookUpPath.operation.Goals as goal
 
 pub returns : goal.returns
 returns c =

@@ -2,8 +2,8 @@ use Rattle.std.proofs.Common.{◌≡◌, ◌∷◌, ◌++◌, List, map}
 use Rattle.std.specs.List.{AllZip}
 use Rattle.utoipa_base.specs.Docs.{Doc}
 use Rattle.utoipa.specs.OpenApi.{openapi_doc}
-use Rattle.example_gateway.specs.Gateway.{IsNestedOf}
-use Rattle.example_gateway.proofs.gateway.merged.Given as goal
+use Rattle.examples_of_use.specs.Gateway.{IsNestedOf}
+use Rattle.examples_of_use.proofs.gateway.merged.Given as goal
 
 -- the gateway's own document stands first, and then those of the services so far, nested
 abbrev pub invariant-loop-base : goal.invariant-loop-base

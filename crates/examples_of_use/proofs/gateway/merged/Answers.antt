@@ -4,13 +4,14 @@ use Rattle.std.proofs.lemmas.List.{append-nil, append_assoc, map-append}
 use Rattle.std.proofs.lemmas.Slice.Zip.{all_zipped_more}
 use Rattle.utoipa_base.specs.Docs.{Doc}
 use Rattle.utoipa_base.proofs.Results.{if_is}
+use Rattle.utoipa_conflicts.specs.Merged.{told}
 use Rattle.utoipa_merging.specs.Merged.{IsMerged}
 use Rattle.utoipa_merging.specs.Nested.{IsNested}
 use Rattle.utoipa_merging.proofs.ItemWalks.{none_left}
 use Rattle.utoipa.specs.OpenApi.{openapi_doc}
-use Rattle.example_gateway.specs.Gateway.{behind, IsNestedOf}
-use Rattle.example_gateway.specs.declared.service.Service.{Service}
-use Rattle.example_gateway.proofs.gateway.merged.Goals as goal
+use Rattle.examples_of_use.specs.Gateway.{behind, IsNestedOf}
+use Rattle.examples_of_use.specs.declared.service.Service.{Service}
+use Rattle.examples_of_use.proofs.gateway.merged.Goals as goal
 
 -- ---- the documents of values that are pushed
 
@@ -80,4 +81,5 @@ returns c =
       nested = before.nested;
       each = subst (λ services. AllZip (IsNestedOf (openapi_doc c.args.own)) services before.nested) all before.each;
       merged = subst (λ ds. IsMerged ds (openapi_doc c.unwrap-document.result)) before.documents (if_is _ _ _ c.in_ok-merge_all.ensures.ok c.unwrap-document.ensures);
+      dropped = c.in_ok-conflicts.ensures.exact ∙ ap (λ ds. told (map openapi_doc ds)) c.deref.ensures.value ∙ ap told before.documents;
     }
