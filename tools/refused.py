@@ -44,7 +44,7 @@ def type_named(line):
     """Returns what the checker calls an impl or a trait: `impl<T: Tree> Tree for Vec<T>` is VecTree, one for a pair Tuple2.."""
     # a path, as `fmt::Display`, has its last name, but one into a crate of the kit all its names, and a lifetime none
     line = re.sub(r"\b(?!serde_json\b)\w+::|'\w+", "", line)
-    kind, taken, named = re.match(r"(?:pub )?(impl|trait)(?:<(.*?)>)? (.*?)[:{]", line).groups()
+    kind, taken, named = re.match(r"(?:pub )?(impl|trait)(?:<(.*?)>)? (.*?)(?:(?<!:):(?!:)|\{)", line).groups()
     variables = re.findall(r"(?:^|, )'?(\w+)", taken or "") if kind == "impl" else []
     of_trait, _, of_type = named.replace("&", "Ref ").replace("[", "Slice ").rpartition(" for ")
     of_trait = re.sub(r"\(([^()]*)\)", lambda it: " Tuple%d %s " % (it[1].count(",") + 1, it[1]) if it[1] else " Unit ", of_trait)
