@@ -1,5 +1,5 @@
 //! Schemas with `allOf`.
-ghost use Rattle.std.specs.Prelude.{◌≡◌, ◌++◌, ◌∷◌, [], IfOk};
+ghost use Rattle.std.specs.Prelude.{◌≡◌, ◌++◌, ◌∷◌, [], IfOk, vec_capacity};
 ghost use Rattle.std.specs.Iterator.{IsFinite};
 ghost use Rattle.utoipa_base.specs.Lists.{EachIterator, IsFilledFrom};
 ghost use Rattle.utoipa_schema.specs.Builders.{built_all_of, built_array, all_of_place, one_array, IsEmptyAllOf, IsArrayOf, Items, Values};
@@ -23,7 +23,8 @@ impl AllOf {
     /// A combination of no schema, of which nothing else is said, with room for as many schemas. Fails where memory
     /// runs out.
     pub fn with_capacity(alloc: Global, capacity: usize) -> Result<AllOf, AllocError>
-        ensures { IfOk result (λ combination. IsEmptyAllOf combination) }
+        ensures empty { IfOk result (λ combination. IsEmptyAllOf combination) }
+        ensures room { IfOk result (λ combination. vec_capacity combination.items ≡ capacity) }
     {
         Ok(all_of_with(alloc, Vec::with_capacity(alloc, capacity)?))
     }
@@ -39,7 +40,8 @@ impl AllOf {
 /// A combination of the schemas, of which nothing else is said.
 fn all_of_with(alloc: Global, items: Vec<RefOr<Schema>>) -> AllOf
     requires { items.items ≡ [] }
-    ensures { IsEmptyAllOf result }
+    ensures empty { IsEmptyAllOf result }
+    ensures items { result.items ≡ items }
 {
     AllOf {
         items,

@@ -1,5 +1,5 @@
 //! Schemas with `anyOf`.
-ghost use Rattle.std.specs.Prelude.{◌≡◌, ◌++◌, ◌∷◌, [], IfOk};
+ghost use Rattle.std.specs.Prelude.{◌≡◌, ◌++◌, ◌∷◌, [], IfOk, vec_capacity};
 ghost use Rattle.std.specs.Iterator.{IsFinite};
 ghost use Rattle.utoipa_base.specs.Lists.{EachIterator, IsFilledFrom};
 ghost use Rattle.utoipa_schema.specs.Builders.{built_any_of, built_array, any_of_place, one_array, IsEmptyAnyOf, IsArrayOf, Items, Values};
@@ -23,7 +23,8 @@ impl AnyOf {
     /// A combination of no schema, of which nothing else is said, with room for as many schemas. Fails where memory
     /// runs out.
     pub fn with_capacity(alloc: Global, capacity: usize) -> Result<AnyOf, AllocError>
-        ensures { IfOk result (λ combination. IsEmptyAnyOf combination) }
+        ensures empty { IfOk result (λ combination. IsEmptyAnyOf combination) }
+        ensures room { IfOk result (λ combination. vec_capacity combination.items ≡ capacity) }
     {
         Ok(any_of_with(alloc, Vec::with_capacity(alloc, capacity)?))
     }
@@ -39,7 +40,8 @@ impl AnyOf {
 /// A combination of the schemas, of which nothing else is said.
 fn any_of_with(alloc: Global, items: Vec<RefOr<Schema>>) -> AnyOf
     requires { items.items ≡ [] }
-    ensures { IsEmptyAnyOf result }
+    ensures empty { IsEmptyAnyOf result }
+    ensures items { result.items ≡ items }
 {
     AnyOf {
         items,

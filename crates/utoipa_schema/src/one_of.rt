@@ -1,5 +1,5 @@
 //! Schemas with `oneOf`.
-ghost use Rattle.std.specs.Prelude.{◌≡◌, ◌++◌, ◌∷◌, [], Some, IfOk};
+ghost use Rattle.std.specs.Prelude.{◌≡◌, ◌++◌, ◌∷◌, [], Some, IfOk, vec_capacity};
 ghost use Rattle.std.specs.Iterator.{IsFinite};
 ghost use Rattle.utoipa_base.specs.Lists.{EachIterator, IsFilledFrom};
 ghost use Rattle.utoipa_schema.specs.Builders.{built_one_of, built_array, one_of_place, one_array, IsEmptyOneOf, IsArrayOf, Items, Values};
@@ -23,7 +23,8 @@ impl OneOf {
     /// A combination of no schema, of which nothing else is said, with room for as many schemas. Fails where memory
     /// runs out.
     pub fn with_capacity(alloc: Global, capacity: usize) -> Result<OneOf, AllocError>
-        ensures { IfOk result (λ combination. IsEmptyOneOf combination) }
+        ensures empty { IfOk result (λ combination. IsEmptyOneOf combination) }
+        ensures room { IfOk result (λ combination. vec_capacity combination.items ≡ capacity) }
     {
         Ok(one_of_with(alloc, Vec::with_capacity(alloc, capacity)?))
     }
@@ -39,7 +40,8 @@ impl OneOf {
 /// A combination of the schemas, of which nothing else is said.
 fn one_of_with(alloc: Global, items: Vec<RefOr<Schema>>) -> OneOf
     requires { items.items ≡ [] }
-    ensures { IsEmptyOneOf result }
+    ensures empty { IsEmptyOneOf result }
+    ensures items { result.items ≡ items }
 {
     OneOf {
         items,
