@@ -109,7 +109,7 @@ fn text_values(alloc: Global, texts: &[&str]) -> Result<Vec<Value>, AllocError>
     Ok(values)
 }
 
-// Puts a name at the end of a list. Fails where memory runs out, and then the list is what it was.
+// Puts a name at the end of a list. Fails where memory runs out.
 fn push_name(list: &mut Vec<String>, alloc: Global, name: &str) -> Result<(), AllocError>
     ensures { OnOk result (map string_bytes list.new.items ≡ map string_bytes list.old.items ++ name.now ∷ []) }
 {

@@ -152,6 +152,9 @@ pub record IsRefilled (standing made : Components) (old new : Maps) : Type 0 whe
   pub after : maps_in made ≡ new
   pub extensions : made.extensions ≡ standing.extensions
 
+pub made_anew : (standing made : Components) (old new : Maps) → old ≡ maps_in standing → maps_in made ≡ new → made.extensions ≡ standing.extensions → IsRefilled standing made old new
+made_anew standing made old new before after extensions = record { before = before; after = after; extensions = extensions }
+
 pub unchanged : (standing made : Components) (old new : Maps) → IsRefilled standing made old new → docs_of_maps new ≡ docs_of_maps old → components_doc made ≡ components_doc standing
 unchanged standing made old new r same = same_components made standing (ap docs_of_maps r.after ∙ same ∙ ap docs_of_maps r.before) r.extensions
 

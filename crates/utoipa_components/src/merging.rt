@@ -10,7 +10,7 @@ ghost use Rattle.utoipa_merging.specs.Merged.{AreComponentsMerged};
 use crate::components::Components;
 use std::alloc::{AllocError, Global};
 use std::collections::BTreeMap;
-use utoipa_base::{Extensions, RefOr};
+use utoipa_base::{Extensions, RefOr, beside};
 use utoipa_leaf::example::Example;
 use utoipa_media::content::Content;
 use utoipa_media::header::Header;
@@ -146,9 +146,33 @@ pub fn merge_components(
         return Ok(None);
     };
     for later in all {
-        drop(fill_components(&mut merged, alloc, later)?);
+        merged = with_missing_of(merged, alloc, later)?;
     }
     Ok(merged)
+}
+
+/// Components with the entries of later ones whose names are not there yet, as [`fill_components`] takes them. Fails where memory runs
+/// out, and then both are given up.
+fn with_missing_of(
+    own: Option<Components>,
+    alloc: Global,
+    later: Option<Components>,
+) -> Result<Option<Components>, AllocError>
+    ensures merged { IfOk result (λ merged. AreComponentsMerged
+        (option_of components_doc own ∷ option_of components_doc later ∷ []) (option_of components_doc merged)) }
+    ensures ordered { IfOk result (λ merged. AreComponentsInOrder own → AreComponentsInOrder later
+        → AreComponentsInOrder merged) }
+{
+    let Some(later) = later else {
+        return Ok(own);
+    };
+    let Some(standing) = own else {
+        return Ok(Some(without_extensions(later)));
+    };
+    let (maps, extensions) = maps_of(standing);
+    let filled = maps.with_missing_of(alloc, maps_of(later).0);
+    let (extensions, maps) = beside(extensions, filled)?;
+    Ok(Some(components_of(maps, extensions)))
 }
 
 /// Components without their extensions.

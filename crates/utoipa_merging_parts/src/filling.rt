@@ -6,7 +6,7 @@ ghost use Rattle.utoipa_base.specs.Views.{map_of_docs};
 ghost use Rattle.utoipa_merging.specs.Merged.{IsInOrder};
 ghost use Rattle.utoipa_merging_parts.specs.Filled.{AreFilled, without};
 
-use crate::maps::{Names, fill_noted, take_back};
+use crate::maps::{Names, fill_missing, fill_noted, take_back};
 use std::alloc::{AllocError, Global};
 use std::collections::BTreeMap;
 use utoipa_base::Tree;
@@ -33,6 +33,13 @@ pub trait Filling: Drop {
     /// Takes back what was put. Takes no memory.
     fn take_back(&mut self, filled: Self::Filled)
         ensures { (before : Self) → goes_back filled self.old before → docs self.new ≡ docs before };
+
+    /// The maps, filled from later ones. Fails where memory runs out, and then all of them are given up, so nothing is noted that
+    /// would take back what was put.
+    fn with_missing_of(self, alloc: Global, later: Self) -> Result<Self, AllocError>
+        ensures filled { IfOk result (λ maps. AreFilled (docs self) (docs later) (docs maps)) }
+        ensures ordered { IfOk result (λ maps. AllByRecursion IsInOrder (docs self)
+            → AllByRecursion IsInOrder (docs maps)) };
 }
 
 impl Filling for () {
@@ -47,6 +54,10 @@ impl Filling for () {
     }
 
     fn take_back(&mut self, _filled: ()) {}
+
+    fn with_missing_of(self, _alloc: Global, _later: ()) -> Result<(), AllocError> {
+        Ok(())
+    }
 }
 
 impl<T: Tree, R: Filling> Filling for (BTreeMap<String, T>, R) {
@@ -77,6 +88,18 @@ impl<T: Tree, R: Filling> Filling for (BTreeMap<String, T>, R) {
         let (names, others) = filled;
         take_back(&mut self.0, &names);
         self.1.take_back(others);
+    }
+
+    fn with_missing_of(
+        self,
+        alloc: Global,
+        later: (BTreeMap<String, T>, R),
+    ) -> Result<(BTreeMap<String, T>, R), AllocError> {
+        let (mut map, others) = self;
+        let (later_map, later_others) = later;
+        fill_missing(&mut map, alloc, later_map)?;
+        let others = others.with_missing_of(alloc, later_others)?;
+        Ok((map, others))
     }
 }
 

@@ -29,11 +29,11 @@ IsExtendedIfAny {C} {S} {X} into gives before None after = after ≡ None
 IsExtendedIfAny {C} {S} {X} into gives before (Some items) after =
     (list : Vec (RefOr X) Global) × (given : List X) × GivesAll into gives items given × (after ≡ Some list) × (list.items ≡ items_if_any before ++ map own_place given)
 
--- there is a list where there is an iterator, of the values that it gives, each where a reference could stand
+-- there is a list where items are given, of the values that they are, each where a reference could stand
 abbrev pub ArePlacesIfAny : {C S X : Type 0} → (C → S → Type 0) → (S → Option X → S → Type 0) → Option C → Option (Vec (RefOr X) Global) → Type 0
 ArePlacesIfAny into gives items list = IsExtendedIfAny into gives None items list
 
--- there is a list where there is an iterator, of the references that it gives, each where a value could stand
+-- there is a list where items are given, of the references that they are, each where a value could stand
 abbrev pub AreReferencesIfAny : {C S X : Type 0} → (C → S → Type 0) → (S → Option Ref → S → Type 0) → Option C → Option (Vec (RefOr X) Global) → Type 0
 AreReferencesIfAny {C} {S} {X} into gives None list = list ≡ None
 AreReferencesIfAny {C} {S} {X} into gives (Some references) o =

@@ -199,8 +199,7 @@ fn clone_method(alloc: Global, method: Option<&Operation>) -> Result<Option<Oper
     }
 }
 
-/// Makes the operation of a method a copy of that of another path item, which may have none. Fails where memory runs out, and then
-/// nothing has changed.
+/// Makes the operation of a method a copy of that of another path item, which may have none. Fails where memory runs out.
 #[cycle(copy)]
 fn copy_method(
     copy: &mut PathItem,

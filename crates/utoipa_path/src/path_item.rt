@@ -27,7 +27,7 @@ use std::mem;
 use utoipa_base::{Extensions, Ref, RefOr, list_if_any, put, put_each, set};
 use utoipa_leaf::path::HttpMethod;
 use utoipa_leaf::server::Server;
-use utoipa_merging::fill_missing;
+use utoipa_merging_parts::fill_missing;
 use utoipa_operation_parts::Parameter;
 
 impl PathItem {

@@ -1,13 +1,8 @@
 use Rattle.std.proofs.Common.{◌≡◌, ◌∙◌, ap, subst}
 use Rattle.std.proofs.lemmas.Result.{on_ok_weaker, on_err_weaker, IfOk-weaker}
 use Rattle.utoipa_merging_parts.specs.Filled.{AreFilled}
-use Rattle.utoipa_components.specs.Filled.{Maps, maps_in}
-use Rattle.utoipa_components.specs.declared.components.Components.{Components}
-use Rattle.utoipa_components.proofs.FilledMaps.{docs_of_maps, IsRefilled, unchanged, refilled, refilled_in_order, noted}
+use Rattle.utoipa_components.proofs.FilledMaps.{docs_of_maps, made_anew, unchanged, refilled, refilled_in_order, noted}
 use Rattle.utoipa_components.proofs.merging.filled_with.Goals as goal
-
-made_anew : (standing made : Components) (old new : Maps) → old ≡ maps_in standing → maps_in made ≡ new → made.extensions ≡ standing.extensions → IsRefilled standing made old new
-made_anew standing made old new before after extensions = record { before = before; after = after; extensions = extensions }
 
 pub returns-clause-merged : goal.returns-clause-merged
 returns-clause-merged c =

@@ -23,15 +23,15 @@ loop-later-init c = record {
 pub loop-later-preserved : goal.loop-later-preserved
 loop-later-preserved c =
     let before = c.loop-later.invariant in
-    let made = c.in_ok-fill_components.ensures in
+    let made = c.in_ok-merged.ensures in
     let first = c.in-Some.merged in
     let later = c.in-Some-later.later in
     let f = option_of components_doc in
     record {
       passed = ap (λ l. first ∷ l) (append_assoc c.loop-later.yielded (later ∷ []) _ ∙ ap (λ l. c.loop-later.yielded ++ l) (sym c.in-Some-later.ensures.steps.0)) ∙ before.passed;
       merged =
-          subst (λ ds. AreComponentsMerged ds (f c.fill_components.new.own)) (sym (map-append f (first ∷ c.loop-later.yielded) (later ∷ [])))
-          (components_compose (map f (first ∷ c.loop-later.yielded)) (f later ∷ []) (f c.loop-later.merged) (f later) (f c.fill_components.new.own) before.merged (one_merged (f later)) made.merged);
+          subst (λ ds. AreComponentsMerged ds (f c.in_ok-merged.merged)) (sym (map-append f (first ∷ c.loop-later.yielded) (later ∷ [])))
+          (components_compose (map f (first ∷ c.loop-later.yielded)) (f later ∷ []) (f c.loop-later.merged) (f later) (f c.in_ok-merged.merged) before.merged (one_merged (f later)) made.merged);
       in_order = λ all.
           let both = all_but_last AreComponentsInOrder (first ∷ c.loop-later.yielded) later all in
           made.ordered (before.in_order both.0) both.1;

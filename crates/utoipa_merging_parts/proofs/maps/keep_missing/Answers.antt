@@ -7,7 +7,7 @@ use Rattle.std.proofs.lemmas.Map.Made.{filter_same_pairs}
 use Rattle.std.proofs.lemmas.Map.Text.{is_eq-slice_cmp}
 use Rattle.utoipa_merging.proofs.Filled.{missing_if}
 use Rattle.utoipa_merging.proofs.Lookups.{found, same_text}
-use Rattle.utoipa_merging.proofs.maps.keep_missing.Goals as goal
+use Rattle.utoipa_merging_parts.proofs.maps.keep_missing.Goals as goal
 
 pub returns : goal.returns
 returns g c =

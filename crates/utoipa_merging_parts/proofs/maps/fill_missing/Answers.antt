@@ -5,7 +5,7 @@ use Rattle.std.specs.Option.{option_or}
 use Rattle.utoipa_merging.proofs.Filled.{missing_put}
 use Rattle.utoipa_merging.proofs.Lookups.{found}
 use Rattle.utoipa_merging.proofs.PutEach.{found-put_each, sorted-put_all}
-use Rattle.utoipa_merging.proofs.maps.fill_missing.Goals as goal
+use Rattle.utoipa_merging_parts.proofs.maps.fill_missing.Goals as goal
 
 pub returns-clause-ok : goal.returns-clause-ok
 returns-clause-ok g c =
