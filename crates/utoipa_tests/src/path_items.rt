@@ -78,22 +78,32 @@ fn stands_at(rt: &impl Abort, item: &PathItem, method: HttpMethod, name: &str) {
     }
 }
 
+// Each method has the operation that it was given.
+fn each_stands(rt: &impl Abort, item: &PathItem) {
+    stands_at(rt, item, HttpMethod::Get, "g");
+    stands_at(rt, item, HttpMethod::Post, "po");
+    stands_at(rt, item, HttpMethod::Put, "pu");
+    stands_at(rt, item, HttpMethod::Delete, "d");
+    stands_at(rt, item, HttpMethod::Options, "o");
+    stands_at(rt, item, HttpMethod::Head, "h");
+    stands_at(rt, item, HttpMethod::Patch, "pa");
+    stands_at(rt, item, HttpMethod::Trace, "t");
+}
+
 // There its operation is found.
 #[test]
 fn each_method_has_its_member(rt: HostRuntime) {
     let item = every_method(&rt);
-    stands_at(&rt, &item, HttpMethod::Get, "g");
-    stands_at(&rt, &item, HttpMethod::Post, "po");
-    stands_at(&rt, &item, HttpMethod::Put, "pu");
-    stands_at(&rt, &item, HttpMethod::Delete, "d");
-    stands_at(&rt, &item, HttpMethod::Options, "o");
-    stands_at(&rt, &item, HttpMethod::Head, "h");
-    stands_at(&rt, &item, HttpMethod::Patch, "pa");
-    stands_at(&rt, &item, HttpMethod::Trace, "t");
+    each_stands(&rt, &item);
     let expected =
         r#"{"delete":{"operationId":"d","responses":{}},"get":{"operationId":"g","responses":{}},"head":{"operationId":"h","responses":{}},"options":{"operationId":"o","responses":{}},"patch":{"operationId":"pa","responses":{}},"post":{"operationId":"po","responses":{}},"put":{"operationId":"pu","responses":{}},"query":{"operationId":"q","responses":{}},"trace":{"operationId":"t","responses":{}}}"#;
     is_json(&rt, &item, expected);
     is_written(&rt, item, expected);
+}
+
+// At another member the operation of `query` is not found.
+#[test]
+fn a_query_is_not_found_at_get(rt: HostRuntime) {
     let queried = PathItem::builder(rt.alloc()).query(Some(operation(&rt, "q")));
     stands_at(&rt, &queried.build(), HttpMethod::Get, "none");
 }
