@@ -18,7 +18,7 @@ use std::alloc::Global;
 use std::io;
 use utoipa::openapi::{MergeFault, merge_all};
 use utoipa::{OpenApi, Tree, openapi};
-use utoipa_document_conflicts::{DocumentConflict, conflicts, nested_conflicts};
+use utoipa_conflicts::{DocumentConflict, conflicts, nested_conflicts};
 
 /// The document of the gateway.
 #[derive(Debug, Drop)]

@@ -5,7 +5,8 @@ use crate::progress::Progress;
 use anyhow::Result;
 use clap::ArgMatches;
 use std::process::ExitCode;
-use utoipa_answers::{Layout, Refusal, Source};
+use utoipa_command::files;
+use utoipa_command::files::{Layout, Refusal, Source};
 
 /// Does what the words ask, and says how that ended.
 pub fn perform(rt: &HostRuntime, matches: &ArgMatches<'_>) -> Result<ExitCode> {
@@ -71,7 +72,7 @@ fn check_file(rt: &HostRuntime, name: &str) -> Result<bool> {
         return Ok(true);
     };
     let bytes = bytes.as_slice();
-    let lines = utoipa_answers::check(rt.alloc(), Source { name, bytes })?;
+    let lines = files::check(rt.alloc(), Source { name, bytes })?;
     write(rt, None, lines.as_str())?;
     Ok(!lines.is_empty())
 }
@@ -97,7 +98,7 @@ fn format(rt: &HostRuntime, words: &ArgMatches<'_>) -> Result<ExitCode> {
         return Ok(ExitCode::FAILURE);
     };
     let bytes = bytes.as_slice();
-    let made = utoipa_answers::format(rt.alloc(), layout(words), Source { name, bytes });
+    let made = files::format(rt.alloc(), layout(words), Source { name, bytes });
     answer(rt, words.get_str("OUT"), made)
 }
 
@@ -149,7 +150,7 @@ fn merge_sources(
     }
     let strict = words.get_flag("strict");
     Progress::new(rt).begin(rt, "merging", size_of(sources));
-    match utoipa_answers::merge(rt.alloc(), layout(words), strict, sources) {
+    match files::merge(rt.alloc(), layout(words), strict, sources) {
         Ok(merged) => {
             let dropped = merged.dropped;
             eprint!(rt; "{dropped}")?;
@@ -175,7 +176,7 @@ fn nest(rt: &HostRuntime, words: &ArgMatches<'_>) -> Result<ExitCode> {
         name: nested_name,
         bytes: nested_bytes.as_slice(),
     };
-    let made = utoipa_answers::nest(rt.alloc(), layout(words), base, own, nested);
+    let made = files::nest(rt.alloc(), layout(words), base, own, nested);
     answer(rt, words.get_str("OUT"), made)
 }
 
@@ -185,7 +186,7 @@ fn operations(rt: &HostRuntime, words: &ArgMatches<'_>) -> Result<ExitCode> {
         return Ok(ExitCode::FAILURE);
     };
     let bytes = bytes.as_slice();
-    let made = utoipa_answers::operations(rt.alloc(), Source { name, bytes });
+    let made = files::operations(rt.alloc(), Source { name, bytes });
     answer(rt, None, made)
 }
 
@@ -195,6 +196,6 @@ fn stats(rt: &HostRuntime, words: &ArgMatches<'_>) -> Result<ExitCode> {
         return Ok(ExitCode::FAILURE);
     };
     let bytes = bytes.as_slice();
-    let made = utoipa_answers::stats(rt.alloc(), Source { name, bytes });
+    let made = files::stats(rt.alloc(), Source { name, bytes });
     answer(rt, None, made)
 }

@@ -8,17 +8,16 @@
 ghost use Rattle.std.specs.Prelude.{◌≡◌, ◌≢◌, ◌<◌, ◌↔◌, length};
 ghost use Rattle.std.specs.Str.{IsUtf8};
 ghost use Rattle.utoipa_c.specs.Codes.{code_of, HasRoom, IsAnswered, IsRefused, IsToldOf, IsTooLong, IsWritten};
-ghost use Rattle.utoipa_c.specs.Documents.{document_kind, IsNoList};
-ghost use Rattle.utoipa_c.specs.Conflicts.{AreConflicts};
+ghost use Rattle.utoipa_c.specs.Documents.{IsNoList};
 ghost use Rattle.utoipa_command.specs.Commands.{server, schema, document, merge, nest, request_of};
+ghost use Rattle.utoipa_command.specs.Dropped.{AreConflicts};
+ghost use Rattle.utoipa_command.specs.Files.{document_kind};
 ghost use Rattle.utoipa_findings.specs.Told.{IsChecked};
 
-mod told;
-
 use std::alloc::Global;
-use told::{dropped, found};
 use utoipa_command::answer::answer;
-use utoipa_command::{Command, Refusal};
+use utoipa_command::files::{Source, check};
+use utoipa_command::{Command, Refusal, dropped};
 
 const DONE: u8 = 0;
 
@@ -179,7 +178,8 @@ fn tell_found(alloc: Global, name: &str, text: &[u8], room: &mut [u8], needed: &
     ensures untouched { result ≢ 0 → room.new ≡ room.old }
     ensures unsaid { result ≢ 0 → result ≢ 1 → needed.new ≡ needed.old }
 {
-    match found(alloc, name, text) {
+    let source = Source { name, bytes: text };
+    match check(alloc, source) {
         Ok(lines) => put(lines.as_bytes(), room, needed),
         Err(_) => code(Refusal::Memory),
     }

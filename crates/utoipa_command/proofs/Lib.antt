@@ -5,3 +5,5 @@ pub mod Served
 pub mod Documents
 pub mod Counts
 pub mod TextsRead
+pub mod FileDocuments
+pub mod Files

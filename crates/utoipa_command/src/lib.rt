@@ -1,9 +1,12 @@
-//! The command `utoipa_doc` as a function: a run reads a text, answers it by a command, and writes the answer or why
-//! there is none.
+//! What the commands answer. The command for programs, `utoipa_doc`, is here as a function: a run reads a text, answers it by a command, and
+//! writes the answer or why there is none. Of the command for people, `openapi`, here is what it answers of the names and bytes of its files
+//! ([`files`]); and [`dropped()`] tells, for callers from C, what merging drops.
 #![tactic(auto)]
 
 pub mod answer;
 pub mod command;
+mod dropped;
+pub mod files;
 pub mod reading;
 pub mod refusal;
 pub mod sink;
@@ -11,6 +14,7 @@ pub mod source;
 pub mod writing;
 
 pub use command::{Command, Outcome, report, run};
+pub use dropped::dropped;
 pub use refusal::Refusal;
 pub use sink::Sink;
 pub use source::Source;

@@ -15,6 +15,7 @@ pub mod WrittenSlots
 pub mod MergedSlots
 pub mod WhatIsLost
 pub mod Telling
+pub mod OfDocuments
 pub mod NestedItems
 pub mod NestedPaths
 pub mod NestedRest

@@ -13,7 +13,7 @@
 //!
 //! Of unambiguous documents the conflicts are exactly the values that the document lacks that they are merged into, and where there is none,
 //! it lacks none ([`laws`], `specs/Merged.antt`). Nesting drops more, which [`tree_nested_conflicts`] lists (`nested.rt`). Both are there for
-//! documents of any type too, each place as a text (`told.rt`).
+//! documents of any type too, as `OpenApi` of the crate `utoipa`, each place as a text ([`conflicts()`], [`nested_conflicts`], `told.rt`).
 #![tactic(auto)]
 
 mod conflict;
@@ -29,6 +29,5 @@ pub use conflict::{Conflict, tree_conflicts};
 pub use nested::tree_nested_conflicts;
 pub use same::is_same;
 pub use told::{
-    DocumentConflict, document_conflicts, document_conflicts_behind, document_nested_conflicts,
-    trees_of_documents,
+    DocumentConflict, composed_conflicts, conflicts, nested_conflicts, trees_of_documents,
 };

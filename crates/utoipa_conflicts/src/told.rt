@@ -1,12 +1,15 @@
 //! What is dropped where documents are merged, told of the documents and not of their trees.
-ghost use Rattle.std.specs.Prelude.{◌≡◌, ◌++◌, Some, IfOk, map, string_bytes};
+ghost use Rattle.std.specs.Prelude.{◌≡◌, ◌++◌, [], Some, All, IfOk, map, string_bytes};
 ghost use Rattle.utoipa_base.specs.Docs.{Doc};
+ghost use Rattle.utoipa_base.specs.Kinds.{named, open_api_object};
+ghost use Rattle.utoipa_base.specs.WellFormed.{IsUnambiguous};
 ghost use Rattle.utoipa_base.specs.Writing.{write};
 ghost use Rattle.utoipa_conflicts.specs.Deciders.{trees_of};
 ghost use Rattle.utoipa_conflicts.specs.Merged as specs;
 ghost use Rattle.utoipa_conflicts.specs.Nested.{behind, told_nested};
 ghost use Rattle.utoipa_conflicts.specs.Texts.{told_text};
 ghost use Rattle.utoipa_conflicts.specs.Views.{conflict_of, item_of, told_of, all_told};
+ghost use Rattle.utoipa_merging.specs.Merged.{IsInKeyOrder, IsMerged};
 
 use crate::conflict::{Conflict, tree_conflicts};
 use crate::nested::{ItemAt, path_items, tree_nested_conflicts};
@@ -64,18 +67,28 @@ pub fn trees_of_documents<T: Tree>(alloc: Global, documents: &[T]) -> Result<Vec
     Ok(trees)
 }
 
-/// What is dropped where documents are merged, as [`tree_conflicts`] lists it of the trees that they are written as. Fails where memory runs
-/// out.
+/// What is dropped where documents are merged: each value that a document has in a slot where another one decides and has another value, or
+/// none, document by document, as [`tree_conflicts`] lists it of the trees that they are written as. Fails where memory runs out.
+///
+/// It is asked before the documents are merged, for merging takes them; a document keeps the number that it has in the list. Of two documents
+/// that call a component alike, one ends with references that lead to the other's: here each is told.
 ///
 /// Of unambiguous OpenAPI documents these are the values that the merged document lacks, all of them and no others: where there is none, each
 /// value that a document has in a slot stands there in the merged document.
-pub fn document_conflicts<T: Tree>(
+pub fn conflicts<T: Tree>(
     alloc: Global,
     documents: &[T],
 ) -> Result<Vec<DocumentConflict>, AllocError>
     ensures exact { IfOk result (λ v. all_told v.items ≡ specs.told (map T.doc documents.now)) }
-    ensures lost { IfOk result (λ v. (d : Doc) → specs.AreMergedInto (map T.doc documents.now) d
+    ensures lost_of_any { IfOk result (λ v. (d : Doc) → specs.AreMergedInto (map T.doc documents.now) d
         → specs.TellWhatIsLost (map T.doc documents.now) d (all_told v.items)) }
+
+    // Of a type of documents nothing else has to be known.
+    ensures lost { T.kind ≡ named open_api_object → IfOk result (λ v. (d : Doc) → All IsUnambiguous (map T.doc documents.now)
+        → IsMerged (map T.doc documents.now) d → IsInKeyOrder d
+        → specs.TellWhatIsLost (map T.doc documents.now) d (all_told v.items)) }
+    ensures none { T.kind ≡ named open_api_object → IfOk result (λ v. v.items ≡ [] → (d : Doc) → All IsUnambiguous (map T.doc documents.now)
+        → IsMerged (map T.doc documents.now) d → IsInKeyOrder d → specs.IsAllThere (map T.doc documents.now) d) }
 {
     let trees = trees_of_documents(alloc, documents)?;
     let conflicts = tree_conflicts(alloc, &trees)?;
@@ -103,9 +116,11 @@ fn all_joined(alloc: Global, base: &str, items: &Vec<ItemAt<'_>>) -> Result<Vec<
     Ok(paths)
 }
 
-/// What is dropped where a document, 1, is nested into another, 0, and a composer of paths answers so to the nested paths, in their order, as
-/// [`tree_nested_conflicts`] lists it of the trees that they are written as. Fails where memory runs out.
-pub fn document_nested_conflicts<T: Tree>(
+/// What is dropped where a document, 1, is nested into another, 0, and a composer of paths answers so to the nested paths, in their order: the
+/// items in whose place a nested one stands, the extensions of the nested paths, and what merging drops of the rest, as
+/// [`tree_nested_conflicts`] lists it of the trees that they are written as. Of two paths that are answered alike the item of the earlier is
+/// dropped too, and told as of document 1 on both sides. Fails where memory runs out.
+pub fn composed_conflicts<T: Tree>(
     alloc: Global,
     own: &T,
     nested: &T,
@@ -120,8 +135,9 @@ pub fn document_nested_conflicts<T: Tree>(
     all_in_text(alloc, &conflicts)
 }
 
-/// What is dropped where a document, 1, is nested into another, 0, and each of its paths comes behind a base. Fails where memory runs out.
-pub fn document_conflicts_behind<T: Tree>(
+/// What is dropped where a document, 1, is nested into another, 0, and each of its paths comes behind a base: the items in whose place a nested
+/// one stands, the extensions of the nested paths, and what merging drops of the rest. Fails where memory runs out.
+pub fn nested_conflicts<T: Tree>(
     alloc: Global,
     own: &T,
     base: &str,
@@ -134,7 +150,7 @@ pub fn document_conflicts_behind<T: Tree>(
     let tree = nested.to_value(alloc)?;
     let items = path_items(alloc, &tree)?;
     let answers = all_joined(alloc, base, &items)?;
-    document_nested_conflicts(alloc, own, nested, &answers)
+    composed_conflicts(alloc, own, nested, &answers)
 }
 
 /// The JSON Pointer of the place, whose value is dropped there, and which document decides.

@@ -1,7 +1,0 @@
-use Rattle.std.proofs.Common.{map, take}
-use Rattle.utoipa.specs.OpenApi.{openapi_doc}
-use Rattle.utoipa_answers.specs.Answers.{AreSourcesOf, file_of}
-use Rattle.utoipa_answers.proofs.merging.documents_of.Given as goal
-
-abbrev pub invariant-loop-source : goal.invariant-loop-source
-invariant-loop-source l = AreSourcesOf (map openapi_doc l.documents.items) (map file_of (take l.source-index l.sources))

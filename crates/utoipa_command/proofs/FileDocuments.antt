@@ -1,0 +1,87 @@
+-- Documents that were read from files: they are plain and in key order, and so is what is made of them.
+use Rattle.std.proofs.Common.{◌≡◌, ◌∷◌, ℕ, List, [], Bool, true, false, if◌then◌else◌, Some, None, Result, Ok, Err, IfOk, IfErr, map, subst}
+use Rattle.std.specs.List.{AllByRecursion}
+use Rattle.std.specs.Str.{is_utf8}
+use Rattle.std.proofs.lemmas.List.Elements.{All-from_recursion}
+use Rattle.serde_json.specs.Data.{Data}
+use Rattle.serde_json.specs.Read.{read as read_text}
+use Rattle.serde_json.specs.Written.{has_float}
+use Rattle.utoipa_base.specs.Docs.{Doc}
+use Rattle.utoipa_base.specs.WellFormed.{IsPlain}
+use Rattle.utoipa_base.specs.Writing.{write}
+use Rattle.utoipa_base.proofs.Plain.{read_plain, write_plain}
+use Rattle.utoipa_findings.specs.Sources.{tree_of, IsSourceOf}
+use Rattle.utoipa_merging.specs.Merged.{IsInKeyOrder, IsMerged, IsOpenApi}
+use Rattle.utoipa_merging.specs.Nested.{IsNested}
+use Rattle.utoipa_merging.specs.Sorted.{IsSorted}
+use Rattle.utoipa_merging.proofs.PlainMerged.{merged_plain, nested_plain}
+use Rattle.utoipa_merging.proofs.ReadInOrder.{read_in_order}
+use Rattle.utoipa_merging.proofs.SortedTexts.{text_sorted}
+use Rattle.utoipa_command.specs.Answers.{behind}
+use Rattle.utoipa_command.specs.Files.{File, document_kind, dropped_lines, AreSourcesOf, IsFormatted, IsMerge, IsNest}
+use Rattle.utoipa_command.specs.Layouts.{laid_out}
+use Rattle.utoipa_command.specs.declared.files.layout.Layout.{Layout}
+
+sorted_if : (b : Bool) (bytes : List ℕ) (t : Data) → (if b then read_text bytes else None) ≡ Some t → IsSorted t
+sorted_if true bytes t e = text_sorted bytes t e
+sorted_if false bytes t e = cc
+
+is_sorted : (bytes : List ℕ) (t : Data) → tree_of bytes ≡ Some t → IsSorted t
+is_sorted bytes t e = sorted_if (is_utf8 bytes) bytes t e
+
+source_in_order : (d : Doc) (bytes : List ℕ) → IsSourceOf document_kind d bytes → IsInKeyOrder d
+source_in_order d bytes s = read_in_order s.tree d (is_sorted bytes s.tree s.has) s.reads.1
+
+source_plain : (d : Doc) (bytes : List ℕ) → IsSourceOf document_kind d bytes → IsPlain d
+source_plain d bytes s = read_plain document_kind s.tree d s.reads.0 s.reads.1
+
+sources_plain : (ds : List Doc) (fs : List File) → AreSourcesOf ds fs → AllByRecursion IsPlain ds
+sources_plain [] [] h = tt
+sources_plain [] (f ∷ fs) h = absurd h
+sources_plain (d ∷ ds) [] h = absurd h
+sources_plain (d ∷ ds) (f ∷ fs) h = (source_plain d f.1 h.0, sources_plain ds fs h.1)
+
+-- what holds of a result holds of what it is
+pub ok_is : {T E : Type 0} (P : T → Type 0) (r : Result T E) (v : T) → IfOk r P → r ≡ Ok v → P v
+ok_is P r v h e = subst (λ s. IfOk s P) e h
+
+pub err_is : {T E : Type 0} (P : E → Type 0) (r : Result T E) (w : E) → IfErr r P → r ≡ Err w → P w
+err_is P r w h e = subst (λ s. IfErr s P) e h
+
+pub if_ok : {T E : Type 0} (P Q : T → Type 0) (r : Result T E) → IfOk r P → ((v : T) → P v → Q v) → IfOk r Q
+if_ok P Q (Ok v) h g = g v h
+if_ok P Q (Err e) h g = tt
+
+-- ---- answers
+
+pub formatted : (l : Layout) (bytes text : List ℕ) (d : Doc) → IsSourceOf document_kind d bytes → (has_float (write d) ≡ false → text ≡ laid_out l (write d)) → IsFormatted l bytes text
+formatted l bytes text d s printed = record { document = d; reads = s; written = printed (write_plain d (source_plain d bytes s)) }
+
+pub merged : (l : Layout) (fs : List File) (text dropped : List ℕ) (ds : List Doc) (d : Doc) → AreSourcesOf ds fs → IsMerged ds d → IsInKeyOrder d
+    → (has_float (write d) ≡ false → text ≡ laid_out l (write d)) → dropped ≡ dropped_lines (map (λ f. f.0) fs) ds → IsMerge l fs text dropped
+merged l fs text dropped ds d s m order printed told = record {
+  documents = ds;
+  reads = s;
+  answer = d;
+  merges = m;
+  ordered = order;
+  written = printed (write_plain d (merged_plain ds d m (All-from_recursion IsPlain ds (sources_plain ds fs s)) order));
+  told = told;
+}
+
+pub nested : (l : Layout) (base own_bytes inner_bytes text : List ℕ) (own inner d : Doc) → IsOpenApi own → IsOpenApi inner
+    → IsSourceOf document_kind own own_bytes → IsSourceOf document_kind inner inner_bytes
+    → IsNested (behind base inner) own inner d → (IsInKeyOrder own → IsInKeyOrder d)
+    → (has_float (write d) ≡ false → text ≡ laid_out l (write d)) → IsNest l base own_bytes inner_bytes text
+nested l base own_bytes inner_bytes text own inner d p q s t n ordered printed =
+    let order = ordered (source_in_order own own_bytes s) in
+    record {
+      own_document = own;
+      reads = s;
+      nested_document = inner;
+      reads_nested = t;
+      answer = d;
+      nests = n;
+      ordered = order;
+      written = printed (write_plain d (nested_plain (behind base inner) own inner d p q n (source_plain own own_bytes s) (source_plain inner inner_bytes t) order));
+    }

@@ -1,0 +1,19 @@
+//! What a command for people answers, made of the names and the bytes of its files: functions that read and write nothing else.
+//!
+//! Each has as its clause what the answer is by the library's definitions (`specs/Files.antt`): what is found in a document ([`check()`]), its
+//! normal form ([`format()`]), what documents are merged into and what that drops ([`merge()`]), a document nested into another ([`nest()`]), its
+//! operations ([`operations()`]) and how much it has of each thing ([`stats()`]). What is no document is refused in lines that tell why.
+mod checking;
+mod formatting;
+mod layout;
+mod listing;
+mod merging;
+mod nesting;
+
+pub use checking::check;
+pub use formatting::format;
+pub use layout::Layout;
+pub use listing::{operations, stats};
+pub use merging::{Merged, merge};
+pub use nesting::nest;
+pub use utoipa_findings::{Refusal, Source};
