@@ -4,7 +4,7 @@ use Rattle.std.proofs.lemmas.List.Elements.{All-from_recursion}
 use Rattle.std.specs.List.{AllByRecursion}
 use Rattle.utoipa_base.specs.Docs.{Doc}
 use Rattle.utoipa_base.specs.Kinds.{Kind, named, open_api_object}
-use Rattle.utoipa_base.specs.OfKind.{IsOf, value_of}
+use Rattle.utoipa_base.specs.Shape.{IsOf, value_of}
 use Rattle.utoipa_base.specs.WellFormed.{IsUnambiguous}
 use Rattle.utoipa_conflicts.specs.Merged.{AreMergedInto, IsAllThere, Told, TellWhatIsLost}
 use Rattle.utoipa_merging.specs.Merged.{IsOpenApi, IsInKeyOrder, IsMerged}

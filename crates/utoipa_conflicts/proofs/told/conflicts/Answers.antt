@@ -39,7 +39,7 @@ returns-clause-lost g c is =
     let ds = c.args.documents.now in
     let documents = map g.T.Documented.doc ds in
     IfOk-weaker c.all_in_text.result (λ v. (d : Doc) → specs.AreMergedInto documents d → specs.TellWhatIsLost documents d (all_told v.items)) _
-    (λ v tell d clear merged ordered. tell d (are_merged g.T.Documented.doc g.T.Documented.kind g.T.Tree.is_of_kind is ds d clear merged ordered)) (returns-clause-lost_of_any g c)
+    (λ v tell d clear merged ordered. tell d (are_merged g.T.Documented.doc g.T.Documented.kind g.met.T.Tree.is_of_kind is ds d clear merged ordered)) (returns-clause-lost_of_any g c)
 
 pub returns-clause-none : goal.returns-clause-none
 returns-clause-none g c is =
