@@ -14,7 +14,8 @@ function that calls a refused one is not judged, so its body goes into the next 
 not refused or can't be tried, or where a function is refused that no body changes. A body takes five to fifteen seconds of
 a processor, and each round one to three minutes before the first. Only the functions that the bodies change are checked, by
 the libraries below, which have to be built; the copy takes over what a check of the crate kept. With --gate the libraries
-that ./check has just left are taken.
+that ./check has just left are taken, and each round takes over what those before it checked, as the drops of the types
+below, which is most of what the first one takes; it stands in the crate's folder, out/tried, and can be removed.
 """
 import collections
 import glob
@@ -172,9 +173,9 @@ def copy_alone(crate, room):
     return folder
 
 
-def words_of_check(crate, is_gate):
-    """The command that checks a crate in its folder."""
-    if not is_gate:
+def words_of_check(crate, kept):
+    """The command that checks a crate in its folder: over the gate's libraries, if there is a folder for what is kept between rounds."""
+    if not kept:
         return ["rt", "check", "--jobs", "1"]
     listed = part.crates_listed()
     names = part.with_all_below(crate, listed, [])
@@ -182,7 +183,7 @@ def words_of_check(crate, is_gate):
     if lacking:
         sys.exit("refused: ./check has left no library of %s" % ", ".join(lacking))
     is_program = os.path.isfile(os.path.join(CRATES, crate, "src", "main.rt"))
-    return [*part.words_over_libraries("check", crate, listed, names), "src/main.rt" if is_program else "src/lib.rt", "--empty-contracts"]
+    return [*part.words_over_libraries("check", crate, listed, names), "src/main.rt" if is_program else "src/lib.rt", "--empty-contracts", "--incremental", kept]
 
 
 def narrowed(crate, bodies):
@@ -192,10 +193,10 @@ def narrowed(crate, bodies):
     return [word for body in bodies for it in body.functions for word in ("--only", "%s::%s" % (crate, it))]
 
 
-def check_with(crate, bodies, is_gate):
+def check_with(crate, bodies, kept):
     """Checks a copy of a crate with the bodies in it. Returns what is said of each function, and all that is said."""
     with tempfile.TemporaryDirectory() as room:
-        folder = copy_alone(crate, room) if is_gate else copy_with_libraries(crate, room)
+        folder = copy_alone(crate, room) if kept else copy_with_libraries(crate, room)
         for changed in {file for body in bodies for file, _ in body.lines}:
             text = lines_of(os.path.join(folder, changed))
             for (file, at), new in [it for body in bodies for it in body.lines.items()]:
@@ -204,7 +205,7 @@ def check_with(crate, bodies, is_gate):
             with open(os.path.join(folder, changed), "w") as source:
                 source.write("\n".join(text))
         how = {"stdout": subprocess.PIPE, "stderr": subprocess.STDOUT, "text": True}
-        said = subprocess.run([*words_of_check(crate, is_gate), *narrowed(crate, bodies)], cwd=folder, **how).stdout
+        said = subprocess.run([*words_of_check(crate, kept), *narrowed(crate, bodies)], cwd=folder, **how).stdout
     found = dict(re.findall(r"^fn %s::(\S+): (.*)" % crate, said, re.M))
     for function, words in found.items():
         waits = re.search(r"which (is|are) not proved|waits for", words)
@@ -235,18 +236,11 @@ def all_apply():
     return 1 if faults else 0
 
 
-def main():
-    words = sys.argv[1:]
-    if words == ["--apply"]:
-        return all_apply()
-    is_gate = words[:1] == ["--gate"]
-    words = words[1:] if is_gate else words
-    if not words or words[0].startswith("-"):
-        sys.exit(__doc__)
-    crate = words[0]
+def tried(crate, edits, kept):
+    """Tries the edits, or all of a crate, tells of each body whether it is refused, and returns the exit status."""
     standing, cycles = functions_of(crate)
     left, refused, faults = [], 0, 0
-    for edit in words[1:] or sorted(glob.glob(os.path.join(CRATES, crate, "wrong-bodies/*.edit"))):
+    for edit in edits or sorted(glob.glob(os.path.join(CRATES, crate, "wrong-bodies/*.edit"))):
         bodies = bodies_of(crate, edit, standing)
         if isinstance(bodies, str):
             print("NOT TRIED %s: %s" % (edit, bodies))
@@ -256,7 +250,7 @@ def main():
     at_once = len(left)
     while left:
         chosen = that_go_together(left, cycles)[:at_once]
-        found, said = check_with(crate, chosen, is_gate)
+        found, said = check_with(crate, chosen, kept)
         judged = []
         for body, error in [] if found else that_do_not_compile(said, chosen, standing):
             print("DOES NOT COMPILE %s: %s" % (body.name, error))
@@ -285,6 +279,20 @@ def main():
     used = resource.getrusage(resource.RUSAGE_CHILDREN)
     print("%d refused, %d faults, %d seconds of a processor" % (refused, faults, used.ru_utime + used.ru_stime))
     return 1 if faults else 0
+
+
+def main():
+    words = sys.argv[1:]
+    if words == ["--apply"]:
+        return all_apply()
+    is_gate = words[:1] == ["--gate"]
+    words = words[1:] if is_gate else words
+    if not words or words[0].startswith("-"):
+        sys.exit(__doc__)
+    kept = os.path.join(CRATES, words[0], "out", "tried") if is_gate else None
+    if kept:
+        os.makedirs(kept, exist_ok=True)
+    return tried(words[0], words[1:], kept)
 
 
 if __name__ == "__main__":

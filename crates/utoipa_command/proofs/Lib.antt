@@ -6,4 +6,4 @@ pub mod Documents
 pub mod Counts
 pub mod TextsRead
 pub mod FileDocuments
-pub mod Files
+pub mod EachFile

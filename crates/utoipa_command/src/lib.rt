@@ -5,7 +5,7 @@
 
 pub mod answer;
 pub mod command;
-mod dropped;
+mod conflict_lines;
 pub mod files;
 pub mod reading;
 pub mod refusal;
@@ -14,7 +14,7 @@ pub mod source;
 pub mod writing;
 
 pub use command::{Command, Outcome, report, run};
-pub use dropped::dropped;
+pub use conflict_lines::dropped;
 pub use refusal::Refusal;
 pub use sink::Sink;
 pub use source::Source;

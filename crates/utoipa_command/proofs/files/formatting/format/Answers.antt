@@ -2,7 +2,7 @@ use Rattle.utoipa.specs.OpenApi.{openapi_doc}
 use Rattle.utoipa_findings.specs.Told.{IsRefused}
 use Rattle.utoipa_command.specs.Files.{document_kind}
 use Rattle.utoipa_command.proofs.FileDocuments.{if_ok, formatted}
-use Rattle.utoipa_command.proofs.Files.{memory_told}
+use Rattle.utoipa_command.proofs.EachFile.{memory_told}
 use Rattle.utoipa_command.proofs.files.formatting.format.Goals as goal
 
 pub returns-clause-ok : goal.returns-clause-ok

@@ -3,7 +3,7 @@ use Rattle.utoipa.specs.OpenApi.{openapi_doc, openapi_of_kind}
 use Rattle.utoipa_findings.specs.Sources.{IsSourceOf}
 use Rattle.utoipa_command.specs.Files.{document_kind, file_of, IsOneRefused}
 use Rattle.utoipa_command.proofs.FileDocuments.{if_ok, nested, ok_is}
-use Rattle.utoipa_command.proofs.Files.{memory_told}
+use Rattle.utoipa_command.proofs.EachFile.{memory_told}
 use Rattle.utoipa_command.proofs.files.nesting.nest.Goals as goal
 
 pub returns-clause-ok : goal.returns-clause-ok
