@@ -12,7 +12,7 @@ use Rattle.utoipa_base.specs.InOrder.{Field, fields_by, is_less, is_greater, is_
 use Rattle.utoipa_base.specs.Kinds.{Row}
 use Rattle.utoipa_base.specs.Pending.{next_view}
 use Rattle.utoipa_base.specs.declared.pending.NextExtension.{NextExtension}
-use Rattle.utoipa_base.specs.Tables.{table, row}
+use Rattle.utoipa_base.specs.Tables.{table}
 use Rattle.utoipa_base.specs.Writing.{write, write_rows, left_out, put_row, put_unless, merge_member, merge_members, with_member}
 use Rattle.utoipa_base.proofs.BoolFacts.{and_first, and_second}
 use Rattle.utoipa_base.proofs.TableNames.{comes_first, comes_earlier, are_apart, first_before, others_apart, less_is, before_later, table_apart}

@@ -9,7 +9,6 @@ use Rattle.utoipa_base.specs.Reading.{both}
 use Rattle.utoipa_base.specs.Tables.{row}
 use Rattle.utoipa_base.specs.Rows.{part, rows_woven}
 use Rattle.utoipa_base.proofs.ByRows.{fields-fit, fields-later}
-use Rattle.serde_json.specs.declared.value.Value as json
 
 -- the fields of rows, and after them those of further rows
 abbrev both_parts : Option Docs → Option Docs → Option Docs

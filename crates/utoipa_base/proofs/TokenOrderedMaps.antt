@@ -1,5 +1,5 @@
 -- A map that keeps its order, made of a map that was read from tokens.
-use Rattle.std.proofs.Common.{◌≡◌, ◌∙◌, ◌+◌, ℕ, List, [], ◌∷◌, ◌++◌, Option, Some, None, option_map, option_and_then, refl, sym, ap, subst, append_assoc, append-nil, String, Global, BTreeMap, string_bytes, string_cmp, string_eq, Less}
+use Rattle.std.proofs.Common.{◌≡◌, ◌∙◌, ℕ, List, [], ◌∷◌, ◌++◌, Option, Some, None, option_map, option_and_then, refl, sym, ap, subst, append_assoc, append-nil, String, Global, BTreeMap, string_bytes, string_cmp, string_eq, Less}
 use Rattle.std.specs.BTreeMap.{IsOrdered}
 use Rattle.std.specs.List.{AllByRecursion}
 use Rattle.std.specs.List.Sorted.{IsStrictlySortedBy}

@@ -1,10 +1,9 @@
 -- Tokens added to a writer, and those of trees, part by part.
-use Rattle.std.proofs.Common.{◌≡◌, ◌+◌, ℕ, ℤ, List, [], ◌∷◌, ◌++◌, false, map, decimal, Some, None, refl, sym, ap, ◌∙◌, String, Global, string_bytes, Result, Ok, Err, OnOk}
+use Rattle.std.proofs.Common.{◌≡◌, ℕ, ℤ, List, [], ◌∷◌, ◌++◌, false, map, decimal, Some, None, refl, sym, ap, ◌∙◌, String, Global, string_bytes, Result, Ok, Err, OnOk}
 use Rattle.std.specs.Fmt.{signed_decimal}
 use Rattle.json.specs.Token.{Token}
 use Rattle.json.specs.Token as token
 use Rattle.json.specs.Print.{print}
-use Rattle.json.specs.Tree as tree
 use Rattle.json.specs.Written.{Written, Writes}
 use Rattle.serde_json.specs.Find.{as_u64, as_i64}
 use Rattle.serde_json.specs.Data.{Num, unsigned, negative, float, Data, number, array, object, no_members, member}

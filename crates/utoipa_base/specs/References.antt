@@ -1,5 +1,5 @@
 -- References that are made from names and by builders, and which component a reference leads to.
-use Rattle.std.specs.Prelude.{◌≡◌, ◌==◌, ◌||◌, ◌++◌, if◌then◌else◌, not, ℕ, Bool, false, List, [], ◌∷◌, Option, None, Some, option_map, option_and_then, codes, String, string_bytes}
+use Rattle.std.specs.Prelude.{◌≡◌, ◌==◌, ◌||◌, ◌++◌, if◌then◌else◌, not, ℕ, Bool, false, List, [], ◌∷◌, Option, None, Some, option_and_then, codes, String, string_bytes}
 use Rattle.std.specs.List.{list_any, before_first, after_first}
 use Rattle.std.specs.declared.alloc.Global.{Global}
 use Rattle.utoipa_base.specs.declared.refs.Ref.{Ref}

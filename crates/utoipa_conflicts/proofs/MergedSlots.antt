@@ -16,7 +16,7 @@ use Rattle.utoipa_base.proofs.BoolFacts.{and_first, and_second, not_true}
 use Rattle.utoipa_merging.specs.Merged.{IsOpenApi, IsMerged}
 use Rattle.utoipa_merging.specs.Rules.{first_of, last_of, given}
 use Rattle.utoipa_merging.specs.Slots as slots
-use Rattle.utoipa_merging.specs.Slots.{field_at, extensions_in, entry_at, parts, fixed_members, base_members, base, map_member, path_slot, extension_at, component_at, paths_of, components_of}
+use Rattle.utoipa_merging.specs.Slots.{field_at, extensions_in, entry_at, parts, fixed_members, base_members, base, path_slot, extension_at, paths_of, components_of}
 use Rattle.utoipa_merging.proofs.UnambiguousMerged.{merged_unambiguous}
 use Rattle.utoipa_check.specs.Misfits.{at_name}
 use Rattle.utoipa_conflicts.specs.Conflicts.{methods, Slot, document_member, component_entry, components_extension, paths_extension, operation, named_operation, base_member, holder, place, place_of_item, first_decides, last_decides, rule, by_rule}

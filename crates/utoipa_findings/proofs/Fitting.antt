@@ -1,13 +1,12 @@
 -- Trees that fit, and files whose tree does not.
-use Rattle.std.proofs.Common.{◌≡◌, ◌==◌, ◌∙◌, ℕ, List, [], ◌∷◌, Bool, true, false, length, Option, None, Some, Result, Ok, Err, IfErr, string_bytes, refl, sym, ap, subst, true≢false, arith}
+use Rattle.std.proofs.Common.{◌≡◌, ◌==◌, ◌∙◌, ℕ, List, [], ◌∷◌, Bool, true, false, length, None, Some, Result, Ok, Err, IfErr, string_bytes, refl, sym, ap, subst, true≢false, arith}
 use Rattle.std.proofs.lemmas.Bool.{eqb-true}
 use Rattle.std.specs.Result.{IsErrAnd}
 use Rattle.serde_json.specs.Data.{Data}
-use Rattle.utoipa_base.specs.Docs.{Doc}
 use Rattle.utoipa_base.specs.Kinds.{Kind}
 use Rattle.utoipa_base.specs.WellFormed.{ReadsAs}
 use Rattle.utoipa_findings.specs.Findings.{refusals}
-use Rattle.utoipa_findings.specs.Sources.{IsSourceOf, tree_of}
+use Rattle.utoipa_findings.specs.Sources.{tree_of}
 use Rattle.utoipa_findings.specs.Told.{IsTold, IsTreeless, IsUnfit, IsRefused, Tells}
 use Rattle.utoipa_findings.specs.declared.refusal.Refusal.{Refusal}
 use Rattle.utoipa_findings.specs.declared.refusal.Refusal.TheVariants.{Memory, Told}

@@ -1,5 +1,5 @@
 -- What is said of a place and of a text.
-use Rattle.std.proofs.Common.{◌≡◌, ◌==◌, ◌+◌, ◌<◌, ℕ, suc, List, [], ◌∷◌, ◌++◌, Bool, true, false, if◌then◌else◌, length, map, drop, drop-cons, get_or, codes, Result, Ok, Err, IfOk, refl, sym, ap, ◌∙◌, append_assoc, true≢false, arith}
+use Rattle.std.proofs.Common.{◌≡◌, ◌==◌, ◌+◌, ◌<◌, ℕ, suc, List, [], ◌∷◌, ◌++◌, Bool, true, false, if◌then◌else◌, length, map, drop, drop-cons, get_or, codes, refl, sym, ap, ◌∙◌, append_assoc, true≢false, arith}
 use Rattle.std.specs.List.{flat_map}
 use Rattle.std.specs.Str.{IsUtf8, is_utf8}
 use Rattle.std.proofs.lemmas.Str.{IsUtf8-from_is_utf8}
@@ -9,10 +9,6 @@ use Rattle.utoipa_check.specs.Views.{step_of, outwards}
 use Rattle.utoipa_check.specs.declared.misfit.Step.{Step}
 use Rattle.utoipa_findings.specs.Lines.{place_text}
 use Rattle.utoipa_findings.specs.Sources.{is_like_yaml, yaml_said, no_json, no_tree}
-
-pub if_ok : {T E : Type 0} (P Q : T → Type 0) (r : Result T E) → IfOk r P → ((v : T) → P v → Q v) → IfOk r Q
-if_ok P Q (Ok v) h g = g v h
-if_ok P Q (Err e) h g = tt
 
 -- ---- places
 

@@ -1,5 +1,5 @@
 -- The schema places of schemas, and what a content schema that does not fit refuses.
-use Rattle.std.proofs.Common.{◌∙◌, ap, ◌≡◌, ◌+◌, None, Result, Ok, Err, IfOk, arith}
+use Rattle.std.proofs.Common.{◌∙◌, ap, ◌≡◌, ◌+◌, None, arith}
 use Rattle.serde_json.specs.Data.{Data}
 use Rattle.utoipa_base.specs.Docs.{Doc}
 use Rattle.utoipa_base.specs.Docs as docs
@@ -29,12 +29,6 @@ no_array d e = table_refused array_schema d (join-later text_content_rows _ d (f
 -- nor an object
 pub no_object_table : (d : Data) → field content_schema_row d ≡ None → read (named object_schema) d ≡ None
 no_object_table d e = table_refused object_schema d (fields-later _ _ d (join-later text_content_rows _ d (fields-first _ _ d e)))
-
--- ---- results
-
-pub if_ok : {T E : Type 0} (P Q : T → Type 0) (r : Result T E) → IfOk r P → ((v : T) → P v → Q v) → IfOk r Q
-if_ok P Q (Ok v) h f = f v h
-if_ok P Q (Err e) h f = tt
 
 -- ---- an array and an object, with a content schema that was read before
 

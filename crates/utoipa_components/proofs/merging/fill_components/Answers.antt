@@ -1,4 +1,4 @@
-use Rattle.std.proofs.Common.{◌≡◌, ◌∷◌, [], Some, refl, ap, sym, ◌∙◌, subst}
+use Rattle.std.proofs.Common.{◌≡◌, ◌∷◌, [], Some, ap, sym, ◌∙◌, subst}
 use Rattle.std.specs.Prelude.{OnOk, OnErr, IfOk}
 use Rattle.utoipa_base.specs.Docs.{some_doc}
 use Rattle.utoipa_base.specs.Views.{option_of}

@@ -1,5 +1,6 @@
 use Rattle.std.proofs.Common.{◌≡◌, Some, Ok, option_map, ap, ◌∙◌, sym, arith, rules}
 use Rattle.serde_json.specs.View.{view}
+use Rattle.std.proofs.lemmas.Result.{IfOk-weaker}
 use Rattle.utoipa_base.specs.Docs as docs
 use Rattle.utoipa_base.specs.Docs.{own_doc}
 use Rattle.utoipa_base.specs.Kinds.{named, schema, array_schema}
@@ -15,7 +16,6 @@ use Rattle.utoipa_schema.specs.Folds.{schema-Array}
 use Rattle.utoipa_schema.specs.declared.types.Schema as schemas
 use Rattle.utoipa_schema.proofs.Choices.{as_array as by_array}
 use Rattle.utoipa_schema.proofs.Fewer.{single_array}
-use Rattle.utoipa_schema.proofs.SchemaCounts.{if_ok}
 use Rattle.utoipa_schema.proofs.alternatives.array_first_from.Goals as goal
 
 pub returns-in-Some-clause-read : goal.returns-in-Some-clause-read
@@ -39,4 +39,4 @@ pub object_or_none_from-requires-clause-no_array : goal.object_or_none_from-requ
 object_or_none_from-requires-clause-no_array c = refused_if_unfit (read (named array_schema) (view c.args.tree.now)) c.array_from.result c.array_from.ensures.err (c.in_ok-array.ensures ∙ ap Ok c.in_default.is)
 
 pub returns-clause-counted : goal.returns-clause-counted
-returns-clause-counted c = if_ok _ _ c.object_or_none_from.result c.object_or_none_from.ensures.counted (λ o h. omega (arith, h))
+returns-clause-counted c = IfOk-weaker c.object_or_none_from.result _ _ (λ o h. omega (arith, h)) c.object_or_none_from.ensures.counted

@@ -1,5 +1,6 @@
 use Rattle.std.proofs.Common.{◌≡◌, Some, Ok, MatchOption, option_map, subst, sym, ap, ◌∙◌, arith}
 use Rattle.serde_json.specs.View.{view}
+use Rattle.std.proofs.lemmas.Result.{IfOk-weaker}
 use Rattle.utoipa_base.specs.Docs.{own_doc}
 use Rattle.utoipa_base.specs.Fields.{field}
 use Rattle.utoipa_base.specs.Kinds.{schema}
@@ -8,7 +9,7 @@ use Rattle.utoipa_schema.specs.Choice.{IsNoCombination, content_schema_row, cont
 use Rattle.utoipa_schema.specs.Outcomes.{outcome_doc, count_of}
 use Rattle.utoipa_schema.proofs.Choices.{no_schema}
 use Rattle.utoipa_schema.proofs.Fitting.{fits_value, fits_none}
-use Rattle.utoipa_schema.proofs.SchemaCounts.{if_ok, no_array, no_object_table}
+use Rattle.utoipa_schema.proofs.SchemaCounts.{no_array, no_object_table}
 use Rattle.utoipa_schema.proofs.alternatives.schema_from.Goals as goal
 
 pub combination_from-requires-clause-inside : goal.combination_from-requires-clause-inside
@@ -40,7 +41,7 @@ array_or_object_from-requires-clause-content c =
 pub returns-in-Some-2-clause-counted : goal.returns-in-Some-2-clause-counted
 returns-in-Some-2-clause-counted c =
     let content = fits_value content_schema_doc (field content_schema_row (view c.args.tree.now)) c.content_schema_from.result c.in-Some-2.content_schema _ (c.content_schema_from.ensures (view c.args.tree.now) (ap (λ m. m.content_schema) c.requires.found)) (c.in_ok-content_schema.ensures ∙ ap Ok c.in-Some-2.is) in
-    if_ok _ _ c.array_or_object_from.result c.array_or_object_from.ensures.counted (λ o h. omega (arith, h, content.1))
+    IfOk-weaker c.array_or_object_from.result _ _ (λ o h. omega (arith, h, content.1)) c.array_or_object_from.ensures.counted
 
 pub returns-in-None-clause-read : goal.returns-in-None-clause-read
 returns-in-None-clause-read c =

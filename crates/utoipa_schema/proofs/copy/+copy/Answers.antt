@@ -1,5 +1,6 @@
 -- The answers of the functions that copy schemas.
 use Rattle.std.proofs.Common.{◌≡◌, ◌∙◌, ◌<◌, ◌∷◌, ◌++◌, map, length, String, Global, sym, ap, arith, rules}
+use Rattle.std.proofs.lemmas.Result.{IfOk-weaker}
 use Rattle.utoipa_base.specs.Docs.{some_doc, own_doc, ref_doc, list_doc, docs_of}
 use Rattle.utoipa_base.specs.Docs as docs
 use Rattle.utoipa_base.specs.Kinds.{schema}
@@ -10,7 +11,6 @@ use Rattle.utoipa_schema.specs.Choice.{content_schema_doc}
 use Rattle.utoipa_schema.specs.Docs.{additional_properties_doc, schema_doc, array_items_doc, one_of_doc, all_of_doc, any_of_doc, array_doc, object_doc}
 use Rattle.utoipa_schema.specs.Folds.{schema-Array, schema-Object, schema-OneOf, schema-AllOf, schema-AnyOf, items-RefOrSchema}
 use Rattle.utoipa_schema.specs.declared.types.Schema.{Schema}
-use Rattle.utoipa_schema.proofs.SchemaCounts.{if_ok}
 use Rattle.utoipa_base.proofs.Weights.{weight, lighter_item, lighter_member, lighter_some, lighter_schema, lighter_own}
 use Rattle.utoipa_base.proofs.WritingLists.{copied_item, copied_list}
 use Rattle.utoipa_base.proofs.WritingMaps.{copied_begun, copied_step, copied_map}
@@ -191,19 +191,19 @@ pub clone_one_of-clone_ref_or_schema_list-requires : goal.clone_one_of-clone_ref
 clone_one_of-clone_ref_or_schema_list-requires t c = (omega (arith, lighter_one_of c.args.one_of.now), tt)
 
 pub clone_one_of-returns : goal.clone_one_of-returns
-clone_one_of-returns t c = if_ok _ _ c.clone_one_of_with.result c.clone_one_of_with.ensures (λ copy h. h c.in_ok-items.ensures)
+clone_one_of-returns t c = IfOk-weaker c.clone_one_of_with.result _ _ (λ copy h. h c.in_ok-items.ensures) c.clone_one_of_with.ensures
 
 pub clone_all_of-clone_ref_or_schema_list-requires : goal.clone_all_of-clone_ref_or_schema_list-requires
 clone_all_of-clone_ref_or_schema_list-requires t c = (omega (arith, lighter_all_of c.args.all_of.now), tt)
 
 pub clone_all_of-returns : goal.clone_all_of-returns
-clone_all_of-returns t c = if_ok _ _ c.clone_all_of_with.result c.clone_all_of_with.ensures (λ copy h. h c.in_ok-items.ensures)
+clone_all_of-returns t c = IfOk-weaker c.clone_all_of_with.result _ _ (λ copy h. h c.in_ok-items.ensures) c.clone_all_of_with.ensures
 
 pub clone_any_of-clone_ref_or_schema_list-requires : goal.clone_any_of-clone_ref_or_schema_list-requires
 clone_any_of-clone_ref_or_schema_list-requires t c = (omega (arith, lighter_any_of c.args.any_of.now), tt)
 
 pub clone_any_of-returns : goal.clone_any_of-returns
-clone_any_of-returns t c = if_ok _ _ c.clone_any_of_with.result c.clone_any_of_with.ensures (λ copy h. h c.in_ok-items.ensures)
+clone_any_of-returns t c = IfOk-weaker c.clone_any_of_with.result _ _ (λ copy h. h c.in_ok-items.ensures) c.clone_any_of_with.ensures
 
 pub clone_array-clone_items-requires : goal.clone_array-clone_items-requires
 clone_array-clone_items-requires t c =
@@ -221,7 +221,7 @@ clone_array-clone_content_schema-requires t c =
     (omega (arith, lighter.2), tt)
 
 pub clone_array-returns : goal.clone_array-returns
-clone_array-returns t c = if_ok _ _ c.clone_array_with.result c.clone_array_with.ensures (λ copy h. h c.in_ok-items.ensures c.in_ok-prefix_items.ensures c.in_ok-content_schema.ensures)
+clone_array-returns t c = IfOk-weaker c.clone_array_with.result _ _ (λ copy h. h c.in_ok-items.ensures c.in_ok-prefix_items.ensures c.in_ok-content_schema.ensures) c.clone_array_with.ensures
 
 pub clone_object-clone_ref_or_schema_map-requires : goal.clone_object-clone_ref_or_schema_map-requires
 clone_object-clone_ref_or_schema_map-requires t c =
@@ -244,4 +244,4 @@ clone_object-clone_content_schema-requires t c =
     (omega (arith, lighter.3), tt)
 
 pub clone_object-returns : goal.clone_object-returns
-clone_object-returns t c = if_ok _ _ c.clone_object_with.result c.clone_object_with.ensures (λ copy h. h c.in_ok-properties.ensures c.in_ok-additional_properties.ensures c.in_ok-property_names.ensures c.in_ok-content_schema.ensures)
+clone_object-returns t c = IfOk-weaker c.clone_object_with.result _ _ (λ copy h. h c.in_ok-properties.ensures c.in_ok-additional_properties.ensures c.in_ok-property_names.ensures c.in_ok-content_schema.ensures) c.clone_object_with.ensures

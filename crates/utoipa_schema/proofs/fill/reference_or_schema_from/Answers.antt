@@ -1,5 +1,6 @@
 use Rattle.std.proofs.Common.{◌≡◌, Some, Ok, ap, ◌∙◌, sym, refl, arith, rules}
 use Rattle.serde_json.specs.View.{view}
+use Rattle.std.proofs.lemmas.Result.{IfOk-weaker}
 use Rattle.utoipa_base.specs.Kinds.{named, reference_object, schema, ref_or}
 use Rattle.utoipa_base.specs.Reading.{read}
 use Rattle.utoipa_base.specs.Refs.{reference_doc, ref_or_doc}
@@ -11,7 +12,6 @@ use Rattle.utoipa_base.proofs.Readers.{reads_value}
 use Rattle.utoipa_base.proofs.Tried.{fits_as, fits_not}
 use Rattle.utoipa_schema.specs.Docs.{schema_doc}
 use Rattle.utoipa_schema.proofs.Filling.{unreferenced}
-use Rattle.utoipa_schema.proofs.SchemaCounts.{if_ok}
 use Rattle.utoipa_schema.proofs.fill.reference_or_schema_from.Goals as goal
 
 pub returns-in_ok-new-in-Some-clause-read : goal.returns-in_ok-new-in-Some-clause-read
@@ -29,4 +29,4 @@ returns-in_ok-new-in-Some-clause-counted c =
 pub returns-in-None-clause-read : goal.returns-in-None-clause-read
 returns-in-None-clause-read c =
     let gone = fits_not reference_doc (read (named reference_object) (view c.args.tree.now)) c.read_plain.result _ _ _ c.read_plain.ensures (c.in_ok-reference.ensures ∙ ap Ok c.in-None.is) in
-    if_ok _ _ c.schema_from.result c.schema_from.ensures.read (λ o e. e ∙ sym (unreferenced (view c.args.tree.now) gone))
+    IfOk-weaker c.schema_from.result _ _ (λ o e. e ∙ sym (unreferenced (view c.args.tree.now) gone)) c.schema_from.ensures.read
