@@ -70,6 +70,10 @@ pub fn trees_of_documents<T: Tree>(alloc: Global, documents: &[T]) -> Result<Vec
 /// What is dropped where documents are merged: each value that a document has in a slot where another one decides and has another value, or
 /// none, document by document, as [`tree_conflicts`] lists it of the trees that they are written as. Fails where memory runs out.
 ///
+/// A slot is what merging takes from one document: a member of the document but its servers, security requirements and tags, which are joined;
+/// a component under its name; an operation at its path and method; what else an item says; an extension of the paths or of the components.
+/// Two values are one where they are written as one tree.
+///
 /// It is asked before the documents are merged, for merging takes them; a document keeps the number that it has in the list. Of two documents
 /// that call a component alike, one ends with references that lead to the other's: here each is told.
 ///
