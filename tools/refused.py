@@ -14,8 +14,9 @@ function that calls a refused one is not judged, so its body goes into the next 
 not refused or can't be tried, or where a function is refused that no body changes. A body takes five to fifteen seconds of
 a processor, and each round one to three minutes before the first. Only the functions that the bodies change are checked, by
 the libraries below, which have to be built; the copy takes over what a check of the crate kept. With --gate the libraries
-that ./check has just left are taken, and each round takes over what those before it checked, as the drops of the types
-below, which is most of what the first one takes; it stands in the crate's folder, out/tried, and can be removed.
+that ./check has just left are taken, and each round takes over what those before it checked of the source as it stands, as
+the drops of the types below, which is most of what the first one takes; it stands in the crate's folder, out/tried, and
+can be removed.
 """
 import collections
 import glob
@@ -166,6 +167,17 @@ def copy_with_libraries(crate, room):
     return os.path.join(room, "crates", crate)
 
 
+def take_over(checked, kept, changed):
+    """Moves what a round checked to what is kept between rounds, but for what was kept before, and for the functions and cycles that it changed."""
+    parts = tuple("+%s." % it if "::" not in it else ".%s." % it.replace("::", ".") for it in changed)
+    for folder, _, files in os.walk(checked):
+        to = os.path.join(kept, os.path.relpath(folder, checked))
+        os.makedirs(to, exist_ok=True)
+        for file in files:
+            if not os.path.exists(os.path.join(to, file)) and not any(it in file for it in parts):
+                shutil.move(os.path.join(folder, file), os.path.join(to, file))
+
+
 def copy_alone(crate, room):
     """Copies a crate, and returns the copy's folder."""
     folder = os.path.join(room, "crates", crate)
@@ -193,10 +205,13 @@ def narrowed(crate, bodies):
     return [word for body in bodies for it in body.functions for word in ("--only", "%s::%s" % (crate, it))]
 
 
-def check_with(crate, bodies, kept):
-    """Checks a copy of a crate with the bodies in it. Returns what is said of each function, and all that is said."""
+def check_with(crate, bodies, kept, changed):
+    """Checks a copy of a crate with the bodies in it, which change these functions and cycles. Returns what is said of each function, and all that is
+    said."""
     with tempfile.TemporaryDirectory() as room:
         folder = copy_alone(crate, room) if kept else copy_with_libraries(crate, room)
+        # What is kept is of the source as it stands, so a round with wrong bodies does not write to it.
+        over = kept and shutil.copytree(kept, os.path.join(room, "tried"), copy_function=linked)
         for changed in {file for body in bodies for file, _ in body.lines}:
             text = lines_of(os.path.join(folder, changed))
             for (file, at), new in [it for body in bodies for it in body.lines.items()]:
@@ -205,7 +220,9 @@ def check_with(crate, bodies, kept):
             with open(os.path.join(folder, changed), "w") as source:
                 source.write("\n".join(text))
         how = {"stdout": subprocess.PIPE, "stderr": subprocess.STDOUT, "text": True}
-        said = subprocess.run([*words_of_check(crate, kept), *narrowed(crate, bodies)], cwd=folder, **how).stdout
+        said = subprocess.run([*words_of_check(crate, over), *narrowed(crate, bodies)], cwd=folder, **how).stdout
+        if kept:
+            take_over(over, kept, changed)
     found = dict(re.findall(r"^fn %s::(\S+): (.*)" % crate, said, re.M))
     for function, words in found.items():
         waits = re.search(r"which (is|are) not proved|waits for", words)
@@ -250,7 +267,8 @@ def tried(crate, edits, kept):
     at_once = len(left)
     while left:
         chosen = that_go_together(left, cycles)[:at_once]
-        found, said = check_with(crate, chosen, kept)
+        changed = {cycles.get(it, it) for body in chosen for it in body.functions or standing.values()}
+        found, said = check_with(crate, chosen, kept, changed)
         judged = []
         for body, error in [] if found else that_do_not_compile(said, chosen, standing):
             print("DOES NOT COMPILE %s: %s" % (body.name, error))
@@ -267,7 +285,6 @@ def tried(crate, edits, kept):
             else:
                 continue
             judged.append(body)
-        changed = {cycles.get(it, it) for body in chosen for it in body.functions or standing.values()}
         for function in sorted({*standing.values()}):
             if found.get(function) == "refused" and cycles.get(function, function) not in changed:
                 print("REFUSED, though no body changes it: " + function)
