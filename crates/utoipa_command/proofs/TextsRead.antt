@@ -9,8 +9,7 @@ use Rattle.utoipa_base.specs.Kinds as kinds
 use Rattle.utoipa_base.specs.Texts as base
 use Rattle.utoipa_base.specs.declared.fault.ReadFault.{ReadFault}
 use Rattle.utoipa_base.specs.declared.fault.ReadFault.TheVariants as fault
-use Rattle.utoipa_findings.specs.Sources.{tree_of}
-use Rattle.utoipa_command.specs.Answers.{input_kind, AnswersInput, IsAnswer, IsCause, IsCauseInTree, IsCauseOfText, IsReadAs, IsTextRewritten}
+use Rattle.utoipa_command.specs.Answers.{tree_of, input_kind, AnswersInput, IsAnswer, IsCause, IsCauseInTree, IsCauseOfText, IsReadAs, IsTextRewritten}
 use Rattle.utoipa_command.specs.Commands.{Request}
 use Rattle.utoipa_command.specs.Messages.{refusal_of}
 use Rattle.utoipa_command.specs.declared.refusal.Refusal.{Refusal}
