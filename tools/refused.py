@@ -211,7 +211,7 @@ def check_with(crate, bodies, kept, changed):
     with tempfile.TemporaryDirectory() as room:
         folder = copy_alone(crate, room) if kept else copy_with_libraries(crate, room)
         # What is kept is of the source as it stands, so a round with wrong bodies does not write to it.
-        over = kept and shutil.copytree(kept, os.path.join(room, "tried"), copy_function=linked)
+        over = kept and shutil.copytree(kept, os.path.join(room, "tried"))
         for changed in {file for body in bodies for file, _ in body.lines}:
             text = lines_of(os.path.join(folder, changed))
             for (file, at), new in [it for body in bodies for it in body.lines.items()]:
