@@ -73,15 +73,17 @@ def write_part(folder, names, listed):
                         ignore=shutil.ignore_patterns("out", "must-fail", "wrong-bodies"))
 
 
-def words_over_libraries(verb, name, listed, names, crates=CRATES):
+def words_over_libraries(verb, name, listed, names, crates=CRATES, sources=()):
     """The command of the toolchain's compiler for a crate, in its folder, over the libraries that `rt ci` has made in a folder of crates. `names` are
-    the crate and all that it stands on. `rt` would prove the libraries once more."""
+    the crate and all that it stands on, and `sources` has the root file of each of them that is read as source. `rt` would prove the libraries once more."""
     kit = os.path.dirname(subprocess.check_output(["rt", "doc"], text=True).strip())
-    of_part = {it: os.path.join(crates, it, "out", "rlib", it + ".rlib") for it in names}
+    of_part = {it: os.path.join(crates, it, "out", "rlib", it + ".rlib") for it in names if it not in sources}
     words = [os.path.join(kit, "bin", "rattle"), verb, "--crate-name", name]
-    for it in ["std", *listed[name].uses]:
-        words += ["--extern", "%s=%s" % (it, of_part.get(it, os.path.join(kit, "rlibs", it + ".rlib")))]
-    for folder in [os.path.join(kit, "rlibs"), *(os.path.dirname(of_part[it]) for it in names if it != name)]:
+    for it in dict.fromkeys(["std", *[used for one in [name, *sources] for used in listed[one].uses]]):
+        words += [] if it in sources else ["--extern", "%s=%s" % (it, of_part.get(it, os.path.join(kit, "rlibs", it + ".rlib")))]
+    for it in sources:
+        words += ["--lib", "%s:%s=%s" % (it, ",".join(["std", *listed[it].uses]), sources[it])]
+    for folder in [os.path.join(kit, "rlibs"), *(os.path.dirname(of_part[it]) for it in of_part if it != name)]:
         words += ["-L", "dependency=" + folder]
     return [*words, "--antt-project", os.path.join(kit, "rattle", "logic", "antt-project.json"), "--logic-built", os.path.join(kit, "logic_built")]
 

@@ -1,22 +1,21 @@
 #!/usr/bin/env python3
 """Tries wrong bodies, many at a time: tells of each whether the prover refuses it.
 
-usage: tools/refused.py [--gate] CRATE [EDIT..]     each EDIT a file of crates/CRATE/wrong-bodies or of crates/CRATE/must-fail;
-                                                    with none, each file of crates/CRATE/wrong-bodies
-       tools/refused.py --apply                     tries nothing: tells of each edit of each crate whether its lines stand in the source
+usage: tools/refused.py CRATE [EDIT..]     each EDIT a file of crates/CRATE/wrong-bodies or of crates/CRATE/must-fail;
+                                           with none, each file of crates/CRATE/wrong-bodies
+       tools/refused.py --right CRATE      tries the functions that the edits change as they stand, each of which has to be proved
+       tools/refused.py --apply            tries nothing: tells of each edit of each crate whether its lines stand in the source
 
 An edit is written as those that `rt ci` tries. It is one wrong body, refused where the prover refuses a function that it
 changes, or, where it changes the text of a type, any function. One called each_.. changes many functions, each line of it
 wherever it stands, and is a wrong body of each function.
 
-A round checks a copy of the crate with as many bodies as go together: no two of a function, or of a cycle of functions. A
-function that calls a refused one is not judged, so its body goes into the next round. Ends with status 1 where a body is
-not refused or can't be tried, or where a function is refused that no body changes. A body takes five to fifteen seconds of
-a processor, and each round one to three minutes before the first. Only the functions that the bodies change are checked, by
-the libraries below, which have to be built; the copy takes over what a check of the crate kept. With --gate the libraries
-that ./check has just left are taken, and each round takes over what those before it checked of the source as it stands, as
-the drops of the types below, which is most of what the first one takes; it stands in the crate's folder, out/tried, and
-can be removed.
+A round checks a copy of the crate with as many bodies as go together: no two of a function, or of a cycle of functions. Each function that none of
+them changes is taken by its contract alone (by_contract.py), so no crate has to be proved before. A body is refused where a goal of its function is not
+proved; where all are, and the function calls one that is refused, it waits for the next round. Ends with status 1 where a body is not refused or can't
+be tried. A body takes three to twenty seconds of a processor, and each round one to eight minutes before the first, the more crates stand below: those
+whose libraries ./check has just left are not read as source. What is checked of the source as it stands is kept for the next round, in the crate's
+folder, out/tried, which can be removed.
 """
 import collections
 import glob
@@ -28,69 +27,15 @@ import subprocess
 import sys
 import tempfile
 
+import by_contract
 import part
+from by_contract import lines_of
 
-ROOT = os.path.dirname(os.path.dirname(os.path.abspath(__file__)))
-CRATES = os.path.join(ROOT, "crates")
+ROOT = part.ROOT
+CRATES = part.CRATES
 
 # The edit (and the function, of one called each_..), the new text of each changed line by file and index, and the functions.
 Body = collections.namedtuple("Body", "name lines functions")
-
-
-def lines_of(path):
-    with open(path) as text:
-        return text.read().split("\n")
-
-
-def type_named(line):
-    """Returns what the checker calls an impl or a trait: `impl<T: Tree> Tree for Vec<T>` is VecTree, one for a pair Tuple2.."""
-    # a path, as `fmt::Display`, has its last name, but one into a crate of the kit all its names, and a lifetime none
-    line = re.sub(r"\b(?!serde_json\b)\w+::|'\w+", "", line)
-    kind, taken, named = re.match(r"(?:pub )?(impl|trait)(?:<(.*?)>)? (.*?)(?:(?<!:):(?!:)|\{)", line).groups()
-    variables = re.findall(r"(?:^|, )'?(\w+)", taken or "") if kind == "impl" else []
-    of_trait, _, of_type = named.replace("&", "Ref ").replace("[", "Slice ").rpartition(" for ")
-    of_trait = re.sub(r"\(([^()]*)\)", lambda it: " Tuple%d %s " % (it[1].count(",") + 1, it[1]) if it[1] else " Unit ", of_trait)
-    if of_type.startswith("("):
-        # The commas between the items, not those inside of one.
-        outer = re.sub(r"<.*?>", "", of_type)
-        of_type = "Tuple%d %s" % (outer.count(",") + 1, of_type) if "," in outer else "Unit"
-    words = [it for it in re.findall(r"\w+", of_type) + re.findall(r"\w+", of_trait) if it not in variables]
-    return "".join(it[0].upper() + it[1:] for it in words)
-
-
-def functions_of(crate):
-    """Returns the function that each line of a crate stands in, by file and index, and the cycle of each that is in one."""
-    standing, cycles = {}, {}
-    folder = os.path.join(CRATES, crate)
-    files = {os.path.relpath(it, folder): lines_of(it) for it in glob.glob(folder + "/src/**/*.rt", recursive=True)}
-    modules = {it: [part for part in it[len("src/"):-len(".rt")].split("/") if part not in ("lib", "main")] for it in files}
-    types = {}
-    for file, lines in files.items():
-        types.update((it[1], modules[file]) for it in map(re.compile(r"(?:pub )?(?:struct|enum) (\w+)").match, lines) if it)
-    for file, lines in files.items():
-        above, cycle, function, start = None, None, None, 0
-        for at, line in enumerate(lines):
-            if re.match(r"(pub )?(impl|trait)\b", line):
-                # its head may go over several lines
-                end = next(it for it in range(at, len(lines)) if "{" in lines[it])
-                head = " ".join(it.strip() for it in lines[at:end + 1])
-                name = type_named(head)
-                # a type's own functions are named by the module that the type stands in
-                above = [*(modules[file] if " for " in head else types.get(name, modules[file])), name]
-            cycle = (re.match(r"\s*#\[cycle\((\w+)\)\]", line) or [None, cycle])[1]
-            found = re.match(r"( *)(?:pub(?:\(\w+\))? )?(?:const |final )?fn (\w+)", line)
-            if found:
-                function = "::".join([*(above or modules[file]), found[2]])
-                cycles.update({function: cycle} if cycle else {})
-                cycle = None
-                # what stands above a function in its impl belongs to it
-                standing.update({(file, it): function for it in range(start, at)})
-            if function:
-                standing[file, at] = function
-                start = at + 1
-            if line.startswith("}"):
-                above, function, start = None, None, at + 1
-    return standing, cycles
 
 
 def bodies_of(crate, edit, standing):
@@ -141,94 +86,74 @@ def that_go_together(bodies, cycles):
     return chosen
 
 
-def linked(old, new):
-    """Makes a file the same as another, or a copy where they can't be one, as on two disks."""
-    try:
-        os.link(old, new)
-    except OSError:
-        shutil.copy2(old, new)
+def as_they_stand(bodies, cycles):
+    """For each function and cycle that the bodies change, a body that changes no line."""
+    changed = collections.defaultdict(set)
+    for body in bodies:
+        for it in body.functions:
+            changed[cycles.get(it, it)].add(it)
+    return [Body(it, {}, sorted(changed[it])) for it in sorted(changed)]
 
 
-def copy_with_libraries(crate, room):
-    """Copies a crate and those of the repository that it stands on, and returns the crate's folder."""
-    uses = [it.split("#")[0].partition(":") for it in lines_of(os.path.join(ROOT, "crates.txt"))]
-    uses = {name.strip(): used.split() for name, _, used in uses if used}
-    needed = [crate]
-    for name in needed:
-        needed += [it for it in uses[name] if it in uses and it not in needed]
-    subprocess.run(["git", "init", "-q", room], check=True)
-    with open(os.path.join(room, "crates.txt"), "w") as listed:
-        for name in needed:
-            listed.write("%s: %s\n" % (name, " ".join(uses[name])))
-            # a library that is built is not checked again, so it needs none of what its check kept, and nothing writes to it
-            is_built = name != crate and os.path.exists(os.path.join(CRATES, name, "out/rlib/stamp"))
-            how = {"ignore": shutil.ignore_patterns("incremental"), "copy_function": linked} if is_built else {}
-            shutil.copytree(os.path.join(CRATES, name), os.path.join(room, "crates", name), **how)
-    return os.path.join(room, "crates", crate)
+def put_into(folder, bodies):
+    """Writes the bodies into the copy of a crate."""
+    for changed in {file for body in bodies for file, _ in body.lines}:
+        text = lines_of(os.path.join(folder, changed))
+        for (file, at), new in [it for body in bodies for it in body.lines.items()]:
+            if file == changed:
+                text[at] = new
+        with open(os.path.join(folder, changed), "w", encoding="utf-8") as source:
+            source.write("\n".join(text))
 
 
-def take_over(checked, kept, changed):
-    """Moves what a round checked to what is kept between rounds, but for what was kept before, and for the functions and cycles that it changed."""
-    parts = tuple("+%s." % it if "::" not in it else ".%s." % it.replace("::", ".") for it in changed)
-    for folder, _, files in os.walk(checked):
-        to = os.path.join(kept, os.path.relpath(folder, checked))
-        os.makedirs(to, exist_ok=True)
-        for file in files:
-            if not os.path.exists(os.path.join(to, file)) and not any(it in file for it in parts):
-                shutil.move(os.path.join(folder, file), os.path.join(to, file))
-
-
-def copy_alone(crate, room):
-    """Copies a crate, and returns the copy's folder."""
-    folder = os.path.join(room, "crates", crate)
-    shutil.copytree(os.path.join(CRATES, crate), folder, ignore=shutil.ignore_patterns("out"))
-    return folder
-
-
-def words_of_check(crate, kept):
-    """The command that checks a crate in its folder: over the gate's libraries, if there is a folder for what is kept between rounds."""
-    if not kept:
-        return ["rt", "check", "--jobs", "1"]
+def words_of_check(crate, room):
+    """The command that checks a crate in its folder, over libraries, and over the source in a room of the crates below that have none, which it
+    writes."""
     listed = part.crates_listed()
     names = part.with_all_below(crate, listed, [])
-    lacking = [it for it in names if it != crate and not part.is_of_gate(it)]
-    if lacking:
-        sys.exit("refused: ./check has left no library of %s" % ", ".join(lacking))
+    sources = {}
+    for name in names:
+        if name != crate and not part.is_of_gate(name):
+            folder = by_contract.copy_of(name, room)
+            by_contract.take_by_contract(name, folder, ())
+            sources[name] = os.path.join(folder, "src/lib.rt")
     is_program = os.path.isfile(os.path.join(CRATES, crate, "src", "main.rt"))
-    return [*part.words_over_libraries("check", crate, listed, names), "src/main.rt" if is_program else "src/lib.rt", "--empty-contracts", "--incremental", kept]
+    kind = ["--crate-type", "staticlib"] if "staticlib" in listed[crate].kind else []
+    kept = os.path.join(CRATES, crate, "out", "tried")
+    os.makedirs(kept, exist_ok=True)
+    words = part.words_over_libraries("check", crate, listed, names, sources=sources)
+    return [*words, *kind, "src/main.rt" if is_program else "src/lib.rt", "--allow-holes", "--incremental", kept]
 
 
-def narrowed(crate, bodies):
-    """Returns the words that have only the bodies' functions checked, where each body changes some."""
-    if not all(body.functions for body in bodies):
-        return []
-    return [word for body in bodies for it in body.functions for word in ("--only", "%s::%s" % (crate, it))]
-
-
-def check_with(crate, bodies, kept, changed):
-    """Checks a copy of a crate with the bodies in it, which change these functions and cycles. Returns what is said of each function, and all that is
-    said."""
+def check_with(crate, words, bodies, changed):
+    """Checks a copy of a crate with the bodies in it, which change these functions and cycles. Returns what is said, and the functions of the copy."""
     with tempfile.TemporaryDirectory() as room:
-        folder = copy_alone(crate, room) if kept else copy_with_libraries(crate, room)
-        # What is kept is of the source as it stands, so a round with wrong bodies does not write to it.
-        over = kept and shutil.copytree(kept, os.path.join(room, "tried"))
-        for changed in {file for body in bodies for file, _ in body.lines}:
-            text = lines_of(os.path.join(folder, changed))
-            for (file, at), new in [it for body in bodies for it in body.lines.items()]:
-                if file == changed:
-                    text[at] = new
-            with open(os.path.join(folder, changed), "w") as source:
-                source.write("\n".join(text))
-        how = {"stdout": subprocess.PIPE, "stderr": subprocess.STDOUT, "text": True}
-        said = subprocess.run([*words_of_check(crate, over), *narrowed(crate, bodies)], cwd=folder, **how).stdout
-        if kept:
-            take_over(over, kept, changed)
-    found = dict(re.findall(r"^fn %s::(\S+): (.*)" % crate, said, re.M))
-    for function, words in found.items():
-        waits = re.search(r"which (is|are) not proved|waits for", words)
-        if re.match(r"not proved|no proof", words) and not waits:
-            found[function] = "refused"
-    return found, said
+        folder = by_contract.copy_of(crate, room)
+        put_into(folder, bodies)
+        by_contract.take_by_contract(crate, folder, changed)
+        standing, _ = by_contract.functions_of(folder)
+        only = [word for body in bodies for it in body.functions for word in ("--only", "%s::%s" % (crate, it))]
+        narrowed = only if all(body.functions for body in bodies) else []
+        how = {"stdout": subprocess.PIPE, "stderr": subprocess.STDOUT, "text": True, "errors": "replace"}
+        said = subprocess.run([*words, *narrowed], cwd=folder, check=False, **how).stdout
+    return said, standing
+
+
+def functions_not_proved(said):
+    """The functions and the cycles of which a goal is not proved: its answer is refused, or the tactics found none."""
+    found, is_open = set(), False
+    for path in re.findall(r"^(?:\./)?proofs/(\S+)/(?:Answers|Invariants)\.antt:\d+:\d+: error", said, re.M):
+        *above, last = path.split("/")
+        # of a cycle by its name, and of a function that calls itself by its path
+        found |= {last.removeprefix("+"), "::".join([*above, last.removeprefix("+")])} if last.startswith("+") else {"::".join([*above, last])}
+    for line in said.split("\n"):
+        # what the tactics did not find stands above the function's line
+        is_open = is_open or "it is not proved that" in line
+        told = re.match(r"fn \w+::(\S+): ", line)
+        if told:
+            found |= {told[1]} if is_open else set()
+            is_open = False
+    return found
 
 
 def that_do_not_compile(said, bodies, standing):
@@ -243,7 +168,7 @@ def all_apply():
     edits, faults = 0, 0
     for folder in sorted(glob.glob(os.path.join(CRATES, "*"))):
         crate = os.path.basename(folder)
-        standing, _ = functions_of(crate)
+        standing, _ = by_contract.functions_of(folder)
         for edit in sorted(glob.glob(os.path.join(folder, "wrong-bodies/*.edit")) + glob.glob(os.path.join(folder, "must-fail/*.edit"))):
             bodies, edits = bodies_of(crate, edit, standing), edits + 1
             if isinstance(bodies, str):
@@ -253,10 +178,29 @@ def all_apply():
     return 1 if faults else 0
 
 
-def tried(crate, edits, kept):
+def judged_of(crate, chosen, cycles, said, standing, is_right):
+    """The bodies of a round that are judged, each with what is told of it, why, and whether that is a fault. One of a function that calls a refused one,
+    and of which each goal is proved, is not judged, for the check does not say that it is proved."""
+    found = dict(re.findall(r"^fn %s::(\S+): (.*)" % crate, said, re.M))
+    if not found:
+        told = [(body, "DOES NOT COMPILE", error, True) for body, error in that_do_not_compile(said, chosen, standing)]
+        return told or [(body, "NOT JUDGED", said[-2000:], True) for body in chosen if len(chosen) == 1]
+    judged, not_proved = [], functions_not_proved(said)
+    for body in chosen:
+        of_body = {it: found.get(it, "no verdict") for it in body.functions or found}
+        if any({it, cycles.get(it)} & not_proved for it in of_body):
+            judged.append((body, "refused", "", is_right))
+        elif all(re.match("no holes|depends on a hole", words) for words in of_body.values()):
+            judged.append((body, "proved" if is_right else "NOT REFUSED", "", not is_right))
+        elif len(chosen) == 1:
+            judged.append((body, "NOT JUDGED", "; ".join(sorted({*of_body.values()})), True))
+    return judged
+
+
+def tried(crate, edits, is_right):
     """Tries the edits, or all of a crate, tells of each body whether it is refused, and returns the exit status."""
-    standing, cycles = functions_of(crate)
-    left, refused, faults = [], 0, 0
+    standing, cycles = by_contract.functions_of(os.path.join(CRATES, crate))
+    left, counts, faults = [], collections.Counter(), 0
     for edit in edits or sorted(glob.glob(os.path.join(CRATES, crate, "wrong-bodies/*.edit"))):
         bodies = bodies_of(crate, edit, standing)
         if isinstance(bodies, str):
@@ -264,37 +208,25 @@ def tried(crate, edits, kept):
             faults += 1
         else:
             left += bodies
+    left = as_they_stand(left, cycles) if is_right else left
     at_once = len(left)
-    while left:
-        chosen = that_go_together(left, cycles)[:at_once]
-        changed = {cycles.get(it, it) for body in chosen for it in body.functions or standing.values()}
-        found, said = check_with(crate, chosen, kept, changed)
-        judged = []
-        for body, error in [] if found else that_do_not_compile(said, chosen, standing):
-            print("DOES NOT COMPILE %s: %s" % (body.name, error))
-            faults += body not in judged
-            judged.append(body)
-        for body in [] if judged else chosen:
-            of_body = {found.get(it, "no verdict") for it in body.functions or found}
-            if "refused" in of_body:
-                print("refused", body.name)
-                refused += 1
-            elif len(chosen) == 1 or of_body == {"proved"}:
-                print("NOT REFUSED %s: %s" % (body.name, "; ".join(sorted(of_body)) if found else said[-2000:]))
-                faults += 1
-            else:
-                continue
-            judged.append(body)
-        for function in sorted({*standing.values()}):
-            if found.get(function) == "refused" and cycles.get(function, function) not in changed:
-                print("REFUSED, though no body changes it: " + function)
-                faults += 1
-        # where none was judged, one of them keeps the copy from compiling
-        at_once = len(left) if judged else len(chosen) // 2
-        left = [it for it in chosen if it not in judged] + [it for it in left if it not in chosen]
-        print("-- %d tried together, %d left" % (len(chosen), len(left)), flush=True)
+    with tempfile.TemporaryDirectory() as room:
+        words = words_of_check(crate, room)
+        while left:
+            chosen = that_go_together(left, cycles)[:at_once]
+            changed = {cycles.get(it, it) for body in chosen for it in body.functions or standing.values()}
+            said, of_copy = check_with(crate, words, chosen, changed)
+            judged = judged_of(crate, chosen, cycles, said, of_copy, is_right)
+            for body, told, why, is_fault in judged:
+                print(" ".join([told, body.name, why]).rstrip())
+                counts[told] += 1
+                faults += is_fault
+            # where none was judged, one of them keeps the copy from compiling
+            at_once = len(left) if judged else max(1, len(chosen) // 2)
+            left = [it for it in chosen if it not in [body for body, *_ in judged]] + [it for it in left if it not in chosen]
+            print("-- %d tried together, %d left" % (len(chosen), len(left)), flush=True)
     used = resource.getrusage(resource.RUSAGE_CHILDREN)
-    print("%d refused, %d faults, %d seconds of a processor" % (refused, faults, used.ru_utime + used.ru_stime))
+    print("%d refused, %d faults, %d seconds of a processor" % (counts["refused"], faults, used.ru_utime + used.ru_stime))
     return 1 if faults else 0
 
 
@@ -302,14 +234,11 @@ def main():
     words = sys.argv[1:]
     if words == ["--apply"]:
         return all_apply()
-    is_gate = words[:1] == ["--gate"]
-    words = words[1:] if is_gate else words
+    is_right = words[:1] == ["--right"]
+    words = words[1:] if is_right else words
     if not words or words[0].startswith("-"):
         sys.exit(__doc__)
-    kept = os.path.join(CRATES, words[0], "out", "tried") if is_gate else None
-    if kept:
-        os.makedirs(kept, exist_ok=True)
-    return tried(words[0], words[1:], kept)
+    return tried(words[0], words[1:], is_right)
 
 
 if __name__ == "__main__":
