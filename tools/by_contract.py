@@ -33,7 +33,8 @@ def type_named(line):
     kind, taken, named = re.match(PUBLIC + r"(impl|trait)(?:<(.*?)>)? (.*?)(?:(?<!:):(?!:)|\{)", line).groups()
     variables = re.findall(r"(?:^|, )'?(\w+)", taken or "") if kind == "impl" else []
     of_trait, _, of_type = named.replace("&", "Ref ").replace("[", "Slice ").rpartition(" for ")
-    of_trait = re.sub(r"\(([^()]*)\)", lambda it: " Tuple%d %s " % (it[1].count(",") + 1, it[1]) if it[1] else " Unit ", of_trait)
+    # of a trait that takes types a pair is named, and `()` is not
+    of_trait = re.sub(r"\(([^()]*)\)", lambda it: it[1] and " Tuple%d %s " % (it[1].count(",") + 1, it[1]), of_trait)
     if of_type.startswith("("):
         # The commas between the items, not those inside of one.
         outer = re.sub(r"<.*?>", "", of_type)
