@@ -147,8 +147,8 @@ def functions_not_proved(said):
         # of a cycle by its name, and of a function that calls itself by its path
         found |= {last.removeprefix("+"), "::".join([*above, last.removeprefix("+")])} if last.startswith("+") else {"::".join([*above, last])}
     for line in said.split("\n"):
-        # what the tactics did not find stands above the function's line
-        is_open = is_open or "it is not proved that" in line
+        # what the tactics did not find stands above the function's line, or in it, where the search broke off
+        is_open = is_open or "it is not proved that" in line or "`search` did not prove" in line
         told = re.match(r"fn \w+::(\S+): ", line)
         if told:
             found |= {told[1]} if is_open else set()
