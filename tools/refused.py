@@ -139,19 +139,20 @@ def check_with(crate, words, bodies, changed):
     return said, standing
 
 
-def functions_not_proved(said):
-    """The functions and the cycles of which a goal is not proved: its answer is refused, or the tactics found none."""
+def functions_not_proved(crate, said):
+    """The functions and the cycles of a crate of which a goal is not proved: its answer is refused, or the tactics found none."""
     found, is_open = set(), False
     for path in re.findall(r"^(?:\./)?proofs/(\S+)/(?:Answers|Invariants)\.antt:\d+:\d+: error", said, re.M):
         *above, last = path.split("/")
         # of a cycle by its name, and of a function that calls itself by its path
         found |= {last.removeprefix("+"), "::".join([*above, last.removeprefix("+")])} if last.startswith("+") else {"::".join([*above, last])}
-    for line in said.split("\n"):
+    # what a check tells on its way it tells once more at its end
+    for line in [it for it in said.split("\n") if not it.startswith("so far: ")]:
         # what the tactics did not find stands above the function's line, or in it, where the search broke off
         is_open = is_open or "it is not proved that" in line or "`search` did not prove" in line
-        told = re.match(r"fn \w+::(\S+): ", line)
+        told = re.match(r"fn (\w+)::(\S+): ", line)
         if told:
-            found |= {told[1]} if is_open else set()
+            found |= {told[2]} if is_open and told[1] == crate else set()
             is_open = False
     return found
 
@@ -185,7 +186,7 @@ def judged_of(crate, chosen, cycles, said, standing, is_right):
     if not found:
         told = [(body, "DOES NOT COMPILE", error, True) for body, error in that_do_not_compile(said, chosen, standing)]
         return told or [(body, "NOT JUDGED", said[-2000:], True) for body in chosen if len(chosen) == 1]
-    judged, not_proved = [], functions_not_proved(said)
+    judged, not_proved = [], functions_not_proved(crate, said)
     for body in chosen:
         of_body = {it: found.get(it, "no verdict") for it in body.functions or found}
         if any({it, cycles.get(it)} & not_proved for it in of_body):
