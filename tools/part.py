@@ -73,10 +73,15 @@ def write_part(folder, names, listed):
                         ignore=shutil.ignore_patterns("out", "must-fail", "wrong-bodies"))
 
 
+def toolchain():
+    """The folder of the toolchain that `rt` is of."""
+    return os.path.dirname(subprocess.check_output(["rt", "doc"], text=True).strip())
+
+
 def words_over_libraries(verb, name, listed, names, crates=CRATES, sources=()):
     """The command of the toolchain's compiler for a crate, in its folder, over the libraries that `rt ci` has made in a folder of crates. `names` are
     the crate and all that it stands on, and `sources` has the root file of each of them that is read as source. `rt` would prove the libraries once more."""
-    kit = os.path.dirname(subprocess.check_output(["rt", "doc"], text=True).strip())
+    kit = toolchain()
     of_part = {it: os.path.join(crates, it, "out", "rlib", it + ".rlib") for it in names if it not in sources}
     words = [os.path.join(kit, "bin", "rattle"), verb, "--crate-name", name]
     for it in dict.fromkeys(["std", *[used for one in [name, *sources] for used in listed[one].uses]]):

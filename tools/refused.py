@@ -10,7 +10,7 @@ An edit is written as those that `rt ci` tries. It is one wrong body, refused wh
 changes, or, where it changes the text of a type, any function. One called each_.. changes many functions, each line of it
 wherever it stands, and is a wrong body of each function.
 
-A round checks a copy of the crate with as many bodies as go together: no two of a function, or of a cycle of functions. Each function that none of
+A round checks a copy of the crate with as many bodies as go together: no two of a function. Each function that none of
 them changes is taken by its contract alone (by_contract.py), so no crate has to be proved before. A body is refused where a goal of its function is not
 proved; where all are, and the function calls one that is refused, it waits for the next round. Ends with status 1 where a body is not refused or can't
 be tried. A body takes three to twenty seconds of a processor, and each round one to eight minutes before the first, the more crates stand below: those
@@ -33,6 +33,14 @@ from by_contract import lines_of
 
 ROOT = part.ROOT
 CRATES = part.CRATES
+
+# How a goal is told that is not proved. The first says most of the contract; the last two say little, and such a body may deserve to be written anew.
+REFUSED, NOT_FOUND = "its answer is refused", "the search found no proof"
+BROKEN_OFF, GONE = "the search broke off at its limit", "its answer cites what is gone"
+KINDS = REFUSED, NOT_FOUND, BROKEN_OFF, GONE
+
+# Of an answer that is refused for a name, before its goal was looked at.
+NAMES_NOTHING = re.compile("has no field|out of reach|not in scope|no such|unknown|undefined|is not declared")
 
 # The edit (and the function, of one called each_..), the new text of each changed line by file and index, and the functions.
 Body = collections.namedtuple("Body", "name lines functions")
@@ -72,13 +80,13 @@ def bodies_of(crate, edit, standing):
     return [Body("%s %s" % (name, it), of_it, [it]) for it, of_it in apart]
 
 
-def that_go_together(bodies, cycles):
-    """Returns the first body, and each other that changes no function, cycle or shared line of those before it."""
+def that_go_together(bodies):
+    """Returns the first body, and each other that changes no function or shared line of those before it."""
     if not bodies[0].functions:
         return bodies[:1]
     chosen, taken, lines = [], set(), {}
     for body in bodies:
-        takes = {cycles.get(it, it) for it in body.functions}
+        takes = {*body.functions}
         if takes and not takes & taken and all(lines.get(at, new) == new for at, new in body.lines.items()):
             chosen.append(body)
             taken |= takes
@@ -139,22 +147,43 @@ def check_with(crate, words, bodies, changed):
     return said, standing
 
 
-def functions_not_proved(crate, said):
-    """The functions and the cycles of a crate of which a goal is not proved: its answer is refused, or the tactics found none."""
-    found, is_open = set(), False
-    for path in re.findall(r"^(?:\./)?proofs/(\S+)/(?:Answers|Invariants)\.antt:\d+:\d+: error", said, re.M):
-        *above, last = path.split("/")
-        # of a cycle by its name, and of a function that calls itself by its path
-        found |= {last.removeprefix("+"), "::".join([*above, last.removeprefix("+")])} if last.startswith("+") else {"::".join([*above, last])}
+def goals_not_proved(crate, cycles, said):
+    """The functions of a crate of which a goal is not proved, and the cycles by their names after a +: each with these goals, and of each goal how that
+    is told, see KINDS."""
+    found, of_next = collections.defaultdict(dict), {}
     # what a check tells on its way it tells once more at its end
     for line in [it for it in said.split("\n") if not it.startswith("so far: ")]:
-        # what the tactics did not find stands above the function's line, or in it, where the search broke off
-        is_open = is_open or "it is not proved that" in line or "`search` did not prove" in line
-        told = re.match(r"fn (\w+)::(\S+): ", line)
-        if told:
-            found |= {told[2]} if is_open and told[1] == crate else set()
-            is_open = False
+        error = re.match(r"(?:\./)?proofs/(\S+)/(?:Answers|Invariants)\.antt:\d+:\d+: error: (?:`(\S+)`)?(.*)", line)
+        note = re.search(r"it is not proved that .* \(`(\S+)`\)(.*)", line)
+        told = re.match(r"fn (\w+)::(\S+): (.*)", line)
+        if error:
+            *above, last = error[1].split("/")
+            # a + stands before the name of a cycle, and before that of a function that calls itself
+            is_cycle = last.startswith("+") and last[1:] in cycles.values()
+            name = last if is_cycle else "::".join([*above, last.removeprefix("+")])
+            found[name][error[2] or "an answer"] = GONE if NAMES_NOTHING.search(error[3]) else REFUSED
+        elif note:
+            # what the tactics did not find stands above the function's line, or in it
+            of_next[note[1]] = BROKEN_OFF if "gave up" in note[2] else NOT_FOUND
+        elif told:
+            missed = re.search(r"`search` did not prove ((?:`\S+`(?:, | and )?)+)", told[3])
+            of_next = {**dict.fromkeys(re.findall(r"`(\S+?)`", missed[1]) if missed else [], NOT_FOUND), **of_next}
+            if of_next and told[1] == crate:
+                found[told[2]].update(of_next)
+            of_next = {}
     return found
+
+
+def goals_of(function, chosen, cycles, not_proved):
+    """The goals of a function that are not proved. Where a round has several bodies of its cycle, those alone that are named after it: the goals of two
+    functions of one name can't be told apart, and are those of neither."""
+    cycle, name = cycles.get(function), function.rpartition("::")[2]
+    goals = {**not_proved.get(function, {}), **not_proved.get("+%s" % cycle, {})}
+    of_cycle = [body for body in chosen if cycle and any(cycles.get(it) == cycle for it in body.functions)]
+    if len(of_cycle) < 2:
+        return goals
+    is_alone = sum(it.rpartition("::")[2] == name for it in cycles if cycles[it] == cycle) == 1
+    return {goal: how for goal, how in goals.items() if is_alone and goal.partition("-")[0] == name}
 
 
 def that_do_not_compile(said, bodies, standing):
@@ -186,11 +215,13 @@ def judged_of(crate, chosen, cycles, said, standing, is_right):
     if not found:
         told = [(body, "DOES NOT COMPILE", error, True) for body, error in that_do_not_compile(said, chosen, standing)]
         return told or [(body, "NOT JUDGED", said[-2000:], True) for body in chosen if len(chosen) == 1]
-    judged, not_proved = [], functions_not_proved(crate, said)
+    judged, not_proved = [], goals_not_proved(crate, cycles, said)
     for body in chosen:
         of_body = {it: found.get(it, "no verdict") for it in body.functions or found}
-        if any({it, cycles.get(it)} & not_proved for it in of_body):
-            judged.append((body, "refused", "", is_right))
+        goals = {goal: how for it in of_body for goal, how in goals_of(it, chosen, cycles, not_proved).items()}
+        if goals:
+            how = min(goals.values(), key=KINDS.index)
+            judged.append((body, "refused", "(%s: %s)" % (", ".join(it for it in goals if goals[it] == how), how), is_right))
         elif all(re.match("no holes|depends on a hole", words) for words in of_body.values()):
             judged.append((body, "proved" if is_right else "NOT REFUSED", "", not is_right))
         elif len(chosen) == 1:
@@ -214,19 +245,20 @@ def tried(crate, edits, is_right):
     with tempfile.TemporaryDirectory() as room:
         words = words_of_check(crate, room)
         while left:
-            chosen = that_go_together(left, cycles)[:at_once]
+            chosen = that_go_together(left)[:at_once]
             changed = {cycles.get(it, it) for body in chosen for it in body.functions or standing.values()}
             said, of_copy = check_with(crate, words, chosen, changed)
             judged = judged_of(crate, chosen, cycles, said, of_copy, is_right)
             for body, told, why, is_fault in judged:
                 print(" ".join([told, body.name, why]).rstrip())
-                counts[told] += 1
+                counts.update([told] + [it for it in KINDS if told == "refused" and it in why])
                 faults += is_fault
             # where none was judged, one of them keeps the copy from compiling
             at_once = len(left) if judged else max(1, len(chosen) // 2)
             left = [it for it in chosen if it not in [body for body, *_ in judged]] + [it for it in left if it not in chosen]
             print("-- %d tried together, %d left" % (len(chosen), len(left)), flush=True)
     used = resource.getrusage(resource.RUSAGE_CHILDREN)
+    print("".join("%d: %s\n" % (counts[it], it) for it in KINDS if counts[it]), end="")
     print("%d refused, %d faults, %d seconds of a processor" % (counts["refused"], faults, used.ru_utime + used.ru_stime))
     return 1 if faults else 0
 
