@@ -36,17 +36,21 @@ def parts(text):
 
 
 def given(folder, program):
-    """Lays out the folder of a user, and gives what a call there is run with: as nobody, for whom a folder may be read-only."""
-    os.chmod(folder, 0o755)
-    own = os.path.join(folder, "own")
+    """Lays out the folder of a user, and gives what a call there is run with: as nobody, for whom a folder may be read-only. What a file may be used
+    for is set here, and not left to the umask or to how the program came where it is."""
+    own, programs = os.path.join(folder, "own"), os.path.join(folder, "bin")
     shutil.copytree(os.path.join(ROOT, "examples"), os.path.join(own, "examples"))
-    os.mkdir(os.path.join(folder, "bin"))
-    shutil.copy(program, os.path.join(folder, "bin", "openapi"))
-    how = {"cwd": own, "env": {"PATH": os.path.join(folder, "bin") + ":/usr/bin:/bin", "LANG": "C.UTF-8", "HOME": own}}
-    if os.geteuid() == 0:
-        for at, _, files in os.walk(own):
-            for name in ["."] + files:
-                os.chown(os.path.join(at, name), NOBODY, NOBODY)
+    os.mkdir(programs)
+    shutil.copyfile(program, os.path.join(programs, "openapi"))
+    how = {"cwd": own, "env": {"PATH": programs + ":/usr/bin:/bin", "LANG": "C.UTF-8", "HOME": own}, "umask": 0o022}
+    is_root = os.geteuid() == 0
+    for at, _, files in os.walk(folder):
+        for name in [".", *files]:
+            path = os.path.join(at, name)
+            os.chmod(path, 0o755 if name == "." or at == programs else 0o644)
+            if is_root and at.startswith(own):
+                os.chown(path, NOBODY, NOBODY)
+    if is_root:
         how.update(user=NOBODY, group=NOBODY, extra_groups=[])
     return how
 
