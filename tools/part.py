@@ -5,12 +5,14 @@ those of the files as they are. Of the ones in the crates' folders that can be s
 before: `rt ci` puts back what it found.
 """
 import collections
+import importlib.machinery
 import os
 import re
 import shutil
 import subprocess
 import sys
 import time
+import types
 
 ROOT = os.path.dirname(os.path.dirname(os.path.abspath(__file__)))
 CRATES = os.path.join(ROOT, "crates")
@@ -76,6 +78,14 @@ def write_part(folder, names, listed):
 def toolchain():
     """The folder of the toolchain that `rt` is of."""
     return os.path.dirname(subprocess.check_output(["rt", "doc"], text=True).strip())
+
+
+def program(name):
+    """A program of the toolchain that is written in Python, as a module."""
+    module = types.ModuleType(name.replace("-", "_"))
+    module.__file__ = os.path.join(toolchain(), "bin", name)
+    importlib.machinery.SourceFileLoader(module.__name__, module.__file__).exec_module(module)
+    return module
 
 
 def words_over_libraries(verb, name, listed, names, crates=CRATES, sources=()):

@@ -10,32 +10,25 @@ it is right. A crate takes some ten checks, each minutes of a processor, and ove
 uses parts of the toolchain's `rt plant`.
 """
 import collections
-import importlib.machinery
 import os
 import re
 import subprocess
 import sys
 import tempfile
-import types
 
 import by_contract
 import part
 import refused
 
+# How many bodies one check judges at most. More are cheaper each, and tell nothing for longer.
+AT_ONCE = 40
+
 # What the planter needs to know of a crate, or of one below it: its sources are in the folder `lang` of its library.
 Library = collections.namedtuple("Library", "name rlib of_kit")
 
 
-def program(kit, name):
-    """A program of the toolchain, as a module."""
-    module = types.ModuleType(name.replace("-", "_"))
-    module.__file__ = os.path.join(kit, "bin", name)
-    importlib.machinery.SourceFileLoader(module.__name__, module.__file__).exec_module(module)
-    return module
-
-
 sys.dont_write_bytecode = True
-PLANTER = program(part.toolchain(), "rt-plant")
+PLANTER = part.program("rt-plant")
 WITHOUT_ATTRIBUTES = PLANTER.bodies.without_attributes
 
 
@@ -82,6 +75,11 @@ class Crate:
         return self.libraries
 
 
+def words_of(plant):
+    """A body, with its function, and why it has its kind."""
+    return "%s: { %s }%s" % (plant.f.shown, plant.body, plant.why and "  (%s)" % plant.why)
+
+
 class Copy(PLANTER.Copy):
     """Writes wrong bodies into the copy, and judges as many at once as compile together."""
 
@@ -117,18 +115,25 @@ class Copy(PLANTER.Copy):
         return said
 
     def judge(self, plants):
-        """Gives each its kind."""
+        """Gives each its kind, some at a time, and tells it, so that it stands where a run is broken off."""
+        for at in range(0, len(plants), AT_ONCE):
+            self.judge_at_once(plants[at:at + AT_ONCE])
+
+    def judge_at_once(self, plants):
+        """Gives each its kind, by one check where all compile."""
         while plants:
             said = self.checked(plants)
             if re.search(r"(?m)^fn ", said):
                 PLANTER.read(plants, said)
+                for it in plants:
+                    print("so far: %-10s  %s" % (it.kind, words_of(it)))
                 print("-- check %d: %d bodies judged" % (self.checks, len(plants)), flush=True)
                 return
             wrong = {self.lines.get((file, int(line))) for file, line in PLANTER.ERROR.findall(said)} - {None}
             print("-- check %d: of %d bodies %d do not compile" % (self.checks, len(plants), len(wrong)), flush=True)
             if not wrong and len(plants) > 1:
-                self.judge(plants[:len(plants) // 2])
-                self.judge(plants[len(plants) // 2:])
+                self.judge_at_once(plants[:len(plants) // 2])
+                self.judge_at_once(plants[len(plants) // 2:])
                 return
             for it in wrong or plants:
                 it.kind = "not-source"
@@ -175,7 +180,7 @@ def main():
         plants = PLANTER.plant(crate, Copy(crate, source), functions, functions, sys.maxsize)
     tested = {it.f for it in plants if it.kind in PLANTER.KINDS[:4] and it.form in PLANTER.GIVES_UP}
     rows = [("no-ensures", f.shown) for f in bare] + [("untested", f.shown) for f in functions if f not in tested]
-    rows += sorted((it.kind, "%s: { %s }%s" % (it.f.shown, it.body, it.why and "  (%s)" % it.why)) for it in plants)
+    rows += sorted((it.kind, words_of(it)) for it in plants)
     for row in rows:
         print("%-10s  %s" % row)
     counts = collections.Counter(it.kind for it in plants)
