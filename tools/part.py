@@ -1,8 +1,8 @@
 """A repository of a crate and those that it stands on alone, and its proof: what ./build and tools/bindings.py build from.
 
-What an earlier run on this machine proved of the same files is taken over, so that after ./check a part is proved in seconds. Its libraries are
-those of the files as they are. Of the ones in the crates' folders that can be said just after ./check alone, which removes those of an earlier gate
-before: `rt ci` puts back what it found.
+Where the toolchain keeps on the machine what it proved, that of the same files is taken over, so that after ./check a part is proved in seconds. The
+libraries are those of the files as they are. Of the ones in the crates' folders that can be said just after ./check alone, which removes those of an
+earlier gate before: `rt ci` puts back what it found.
 """
 import collections
 import importlib.machinery
@@ -16,6 +16,9 @@ import types
 
 ROOT = os.path.dirname(os.path.dirname(os.path.abspath(__file__)))
 CRATES = os.path.join(ROOT, "crates")
+
+# What proves the repository that it is run in.
+GATE = os.path.join(ROOT, "tools", "rt_ci.py")
 
 # A crate of crates.txt: what kind of crate its line says that it is, if it says so, and what it stands on.
 Listed = collections.namedtuple("Listed", "kind uses")
@@ -124,8 +127,7 @@ def tell(names, listed, said, log):
 
 def prove(folder, names, listed, log):
     """Proves the repository that was written, tells each crate as it ends, and returns whether all are proved."""
-    ran = subprocess.Popen(["rt", "ci"], cwd=folder, stdin=subprocess.DEVNULL, stdout=subprocess.PIPE,
-                           stderr=subprocess.STDOUT, text=True, errors="replace")
+    ran = subprocess.Popen([GATE], cwd=folder, stdin=subprocess.DEVNULL, stdout=subprocess.PIPE, stderr=subprocess.STDOUT, text=True, errors="replace")
     try:
         tell(names, listed, ran.stdout, log)
         return not ran.wait()
