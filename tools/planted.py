@@ -1,7 +1,8 @@
 #!/usr/bin/env python3
 """Tries the wrong bodies that `rt plant` makes, over the contracts of what they call: tells of each what the prover says.
 
-usage: tools/planted.py CRATE [WORD]     with WORD, the functions alone whose file, line and path contain it
+usage: tools/planted.py [--giving-up] CRATE [WORD]     with WORD, the functions alone whose file, line and path contain it; with --giving-up
+                                                       the bodies alone that give up, and none that calls the real function
 
 `rt plant` first checks the crate as it stands, and halves what takes long. Here, as in refused.py, each function of the crate is taken by its contract
 alone, and of the crates below those are read as source whose libraries ./check has not just left: no crate has to be proved before, and no body is
@@ -125,7 +126,8 @@ class Copy(PLANTER.Copy):
             said = self.checked(plants)
             if re.search(r"(?m)^fn ", said):
                 PLANTER.read(plants, said)
-                for it in plants:
+                # the unchanged call, which has to be proved, is no wrong body
+                for it in [it for it in plants if it.body != it.f.call()]:
                     print("so far: %-10s  %s" % (it.kind, words_of(it)))
                 print("-- check %d: %d bodies judged" % (self.checks, len(plants)), flush=True)
                 return
@@ -169,15 +171,18 @@ def source_with_bodies(crate):
 
 
 def main():
-    if len(sys.argv) not in (2, 3) or sys.argv[1].startswith("-"):
+    given = [it for it in sys.argv[1:] if it != "--giving-up"]
+    if len(given) not in (1, 2) or given[0].startswith("-"):
         sys.exit(__doc__)
     with tempfile.TemporaryDirectory() as room:
-        crate = Crate(sys.argv[1], room)
+        crate = Crate(given[0], room)
         source = source_with_bodies(crate)
-        functions, bare = PLANTER.chosen(crate, source, {}, "".join(sys.argv[2:]))
+        functions, bare = PLANTER.chosen(crate, source, {}, "".join(given[1:]))
         for f in functions:
             f.symbols, f.is_found = ([f.symbol], True) if f.in_trait else ([], False)
-        plants = PLANTER.plant(crate, Copy(crate, source), functions, functions, sys.maxsize)
+        # those of which the unchanged call is tried, and where it is proved what changes it
+        called = [] if "--giving-up" in sys.argv[1:] else functions
+        plants = PLANTER.plant(crate, Copy(crate, source), functions, called, sys.maxsize)
     tested = {it.f for it in plants if it.kind in PLANTER.KINDS[:4] and it.form in PLANTER.GIVES_UP}
     rows = [("no-ensures", f.shown) for f in bare] + [("untested", f.shown) for f in functions if f not in tested]
     rows += sorted((it.kind, words_of(it)) for it in plants)
