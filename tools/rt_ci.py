@@ -6,7 +6,7 @@ usage: tools/rt_ci.py
 What is proved, tried, run and told is as `rt ci` has it: the toolchain's own program runs, and one function of it is replaced, the one that shares the
 processors out. That one looks at what is ready when a crate's turn comes, also at the tests and edits of crates that have none, so a crate of the longest
 chain, on which all others wait, gets one processor or two, whatever is idle later. Here such a crate gets all that are idle, and each beside it one.
-Where the toolchain's function has another form, or RT_JOBS is set, `rt ci` runs as it is. docs/PROOFS.md says what that takes.
+Where the toolchain's function has another form, or RT_JOBS is set, `rt ci` runs as it is. docs/MEASURED.md says what each takes.
 """
 import inspect
 import os
@@ -19,7 +19,7 @@ import part
 
 # What each job of a check takes of memory beside the first, as rt plans.
 MORE_MEMORY = 0.6
-# How much of the memory that rt plans a check was seen to take: at most 0.4, of utoipa_base, leaf, security, schema and check.
+# How much of the memory that rt plans a check is reckoned to take: five crates were seen to take 0.30 to 0.43 of it, by one job.
 MEMORY_SEEN = 0.6
 # How much of what is free at the start is shared out.
 MEMORY_SHARED = 0.85
@@ -41,11 +41,14 @@ def behind_each(tasks):
     return behind
 
 
-def schedule(rt):
+def schedule(rt, own):
     """What runs the tasks of `rt ci` side by side and returns what each gave: each once those that it waits for have ended, and first those with the
-    longest chain behind them. A task is what it waits for, its lines, its memory, and a call that takes what was given and how many jobs it may use."""
+    longest chain behind them. A task is what it waits for, its lines, its memory, and a call that takes what was given and how many jobs it may use.
+    Where one is not, the toolchain's own function runs them."""
 
     def in_lanes(tasks):
+        if not all(map(is_known, tasks.values())):
+            return own(tasks)
         processors, memory, behind = rt.processors(), MEMORY_SHARED * rt.free(), behind_each(tasks)
         lanes = processors + MORE_JOBS
         left, running, given = sorted(tasks, key=lambda it: -behind[it]), {}, {}
@@ -67,10 +70,7 @@ def schedule(rt):
                     given[running.pop(it)[0]] = it.result()
         return given
 
-    def in_known_lanes(tasks):
-        return in_lanes(tasks) if all(map(is_known, tasks.values())) else rt.in_lanes_of_rt(tasks)
-
-    return in_known_lanes
+    return in_lanes
 
 
 def is_known(task):
@@ -84,7 +84,7 @@ def main():
     rt = part.program("rt")
     found = getattr(rt, "in_lanes", None)
     if found and [*inspect.signature(found).parameters] == ["tasks"] and "RT_JOBS" not in os.environ:
-        rt.in_lanes_of_rt, rt.in_lanes = found, schedule(rt)
+        rt.in_lanes = schedule(rt, found)
     return rt.main(["ci"])
 
 
