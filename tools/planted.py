@@ -1,8 +1,9 @@
 #!/usr/bin/env python3
 """Tries the wrong bodies that `rt plant` makes, over the contracts of what they call: tells of each what the prover says.
 
-usage: tools/planted.py [--giving-up] CRATE [WORD]     with WORD, the functions alone whose file, line and path contain it; with --giving-up
-                                                       the bodies alone that give up, and none that calls the real function
+usage: tools/planted.py [--giving-up] [--after N] CRATE [WORD]
+                        with WORD, the functions alone whose file, line and path contain it; with --giving-up the bodies alone that give up, and
+                        none that calls the real function; with --after N, an earlier run having ended after N bodies, those that follow
 
 `rt plant` first checks the crate as it stands, and halves what takes long. Here, as in refused.py, each function of the crate is taken by its contract
 alone, and of the crates below those are read as source whose libraries ./check has not just left: no crate has to be proved before, and no body is
@@ -10,6 +11,7 @@ given up for its time. What is told is said in `rt plant --help`, and so is the 
 it is right. A crate takes some ten checks, each minutes of a processor, and over twenty where it has a hundred bodies of functions with long contracts. It
 uses parts of the toolchain's `rt plant`.
 """
+import argparse
 import collections
 import os
 import re
@@ -84,9 +86,11 @@ def words_of(plant):
 class Copy(PLANTER.Copy):
     """Writes wrong bodies into the copy, and judges as many at once as compile together."""
 
-    def __init__(self, crate, source):
+    def __init__(self, crate, source, first):
         self.crate, self.source, self.folder, self.flags = crate, source, crate.folder, []
         self.lines, self.checks, self.end = {}, 0, 0
+        # the first body that is judged, and the one that is due, both counted from 0 in the order in which they are made
+        self.first, self.due = first, 0
 
     def is_late(self):
         return False
@@ -117,8 +121,13 @@ class Copy(PLANTER.Copy):
 
     def judge(self, plants):
         """Gives each its kind, some at a time, and tells it, so that it stands where a run is broken off."""
-        for at in range(0, len(plants), AT_ONCE):
-            self.judge_at_once(plants[at:at + AT_ONCE])
+        passed_over = min(max(self.first - self.due, 0), len(plants))
+        self.due += passed_over
+        for at in range(passed_over, len(plants), AT_ONCE):
+            now = plants[at:at + AT_ONCE]
+            self.judge_at_once(now)
+            self.due += len(now)
+            print("-- after %d bodies" % self.due, flush=True)
 
     def judge_at_once(self, plants):
         """Gives each its kind, by one check where all compile."""
@@ -171,18 +180,21 @@ def source_with_bodies(crate):
 
 
 def main():
-    given = [it for it in sys.argv[1:] if it != "--giving-up"]
-    if len(given) not in (1, 2) or given[0].startswith("-"):
-        sys.exit(__doc__)
+    options = argparse.ArgumentParser(usage=__doc__[__doc__.index("tools/"):])
+    options.add_argument("--giving-up", action="store_true")
+    options.add_argument("--after", metavar="N", type=int, default=0)
+    options.add_argument("crate")
+    options.add_argument("word", nargs="?", default="")
+    given = options.parse_args()
     with tempfile.TemporaryDirectory() as room:
-        crate = Crate(given[0], room)
+        crate = Crate(given.crate, room)
         source = source_with_bodies(crate)
-        functions, bare = PLANTER.chosen(crate, source, {}, "".join(given[1:]))
+        functions, bare = PLANTER.chosen(crate, source, {}, given.word)
         for f in functions:
             f.symbols, f.is_found = ([f.symbol], True) if f.in_trait else ([], False)
         # those of which the unchanged call is tried, and where it is proved what changes it
-        called = [] if "--giving-up" in sys.argv[1:] else functions
-        plants = PLANTER.plant(crate, Copy(crate, source), functions, called, sys.maxsize)
+        called = [] if given.giving_up else functions
+        plants = PLANTER.plant(crate, Copy(crate, source, given.after), functions, called, sys.maxsize)
     tested = {it.f for it in plants if it.kind in PLANTER.KINDS[:4] and it.form in PLANTER.GIVES_UP}
     rows = [("no-ensures", f.shown) for f in bare] + [("untested", f.shown) for f in functions if f not in tested]
     rows += sorted((it.kind, words_of(it)) for it in plants)
