@@ -1,20 +1,33 @@
--- What a writer of JSON has after a document was printed to it.
-use Rattle.std.specs.Prelude.{◌≡◌, List, ◌++◌, Bool, false}
+-- The texts of a tree in compact form.
+use Rattle.std.specs.Prelude.{◌≡◌, ◌≤◌, ℕ, List, Some}
+use Rattle.json.specs.Print.{print}
 use Rattle.json.specs.Token.{Token}
-use Rattle.json.specs.Tree.{json_tokens}
-use Rattle.json.specs.Written.{Written}
-use Rattle.serde_json.specs.Data.{Data}
-use Rattle.serde_json.specs.Written.{outline, has_float}
+use Rattle.serde_json.specs.Data.{Data, null, boolean, number, string, array, object, depth, Items, no_items, item, Members, no_members, member, put}
+use Rattle.serde_json.specs.Read.{read as read_text, max_depth}
+use Rattle.utoipa_base.specs.Events.{events}
+use Rattle.utoipa_base.specs.Sent.{AreTokensOf}
 
--- the tokens of a tree. A fraction has none here, since its digits are not defined
-unfoldable pub value_tokens : Data → List Token
-value_tokens d = json_tokens (outline d)
+abbrev mutual
+  -- the tree with the members of each object in the order of their names; of those of one name the last stays
+  pub in_order : Data → Data
+  in_order null = null
+  in_order (boolean b) = boolean b
+  in_order (number n) = number n
+  in_order (string s) = string s
+  in_order (array ds) = array (items_in_order ds)
+  in_order (object ms) = object (put_in_order ms no_members)
 
--- some tokens were added, unless a fraction was printed among them
-pub record Adds (fraction : Bool) (added : List Token) (old new : Written) : Type 0 where
-  pub before : new.before ≡ old.before
-  pub tokens : fraction ≡ false → new.tokens ≡ old.tokens ++ added
+  pub items_in_order : Items → Items
+  items_in_order no_items = no_items
+  items_in_order (item d ds) = item (in_order d) (items_in_order ds)
 
--- a tree was printed
-abbrev pub Prints : Data → Written → Written → Type 0
-Prints d old new = Adds (has_float d) (value_tokens d) old new
+  -- the members, with others put among them, one after the other
+  pub put_in_order : Members → Members → Members
+  put_in_order no_members found = found
+  put_in_order (member k d ms) found = put_in_order ms (put k (in_order d) found)
+
+-- the text is JSON of the tree: it has the tree's items and members, each once and in turn, and for each number a text that is read as
+-- the number, with no space between. So it is read as the tree, where this nests no deeper than a text may
+pub record IsJsonOf (d : Data) (text : List ℕ) : Type 0 where
+  pub has : (ts : List Token) × (text ≡ print ts) × AreTokensOf (events d) ts
+  pub reads_back : depth d ≤ max_depth → read_text text ≡ Some (in_order d)

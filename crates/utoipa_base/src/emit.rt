@@ -1,11 +1,12 @@
 //! Values that are sent to any sink as JSON, written once.
-ghost use Rattle.std.specs.Prelude.{◌≡◌, ◌++◌, false, IfOk, OnOk};
+ghost use Rattle.std.specs.Prelude.{◌≡◌, ◌++◌, ℕ, List, false, IfOk, OnOk};
 ghost use Rattle.serde_json.specs.Data.{array};
 ghost use Rattle.serde_json.specs.View.{view, items_view, members_view};
 ghost use Rattle.serde_json.specs.Written.{has_float, compact_text};
 ghost use Rattle.utoipa_base.specs.Docs.{Doc, flag_doc, whole_doc};
 ghost use Rattle.utoipa_base.specs.Events.{events, members_events};
 ghost use Rattle.utoipa_base.specs.Kinds.{Kind, text, flag, whole, any, list_of, map_of};
+ghost use Rattle.utoipa_base.specs.Printed.{IsJsonOf};
 ghost use Rattle.utoipa_base.specs.Views.{text_of, tree_of, boxed, list_of_docs, map_of_docs};
 ghost use Rattle.utoipa_base.specs.Writing.{write};
 
@@ -177,10 +178,13 @@ impl<T: Emit> Emit for BTreeMap<String, T> {
 
 /// The text, with a value as JSON at its end: in compact form, the members of each object in the order of their names.
 ///
-/// Of a value that holds a fraction the text of the fraction is not defined. Fails where memory runs out.
+/// What was added is read as the tree that the value is written as, with its fractions. The text of a whole number is its digits;
+/// of a fraction it is one that is read as the fraction, and which is not defined. Fails where memory runs out.
 pub fn append_text<T: Emit>(text: Vec<u8>, value: &T) -> Result<Vec<u8>, AllocError>
-    ensures { IfOk result (λ longer. has_float (write (T.doc value.now)) ≡ false
+    ensures text { IfOk result (λ longer. has_float (write (T.doc value.now)) ≡ false
         → longer.items ≡ text.items ++ compact_text (write (T.doc value.now))) }
+    ensures json { IfOk result (λ longer. (added : List ℕ) × (longer.items ≡ text.items ++ added)
+        × IsJsonOf (write (T.doc value.now)) added) }
 {
     let mut out = Writer::new(text);
     value.emit(&mut out)?;
@@ -189,8 +193,9 @@ pub fn append_text<T: Emit>(text: Vec<u8>, value: &T) -> Result<Vec<u8>, AllocEr
 
 /// A value as JSON, as [`append_text`] writes it. Fails where memory runs out.
 pub fn written_text<T: Emit>(alloc: Global, value: &T) -> Result<Vec<u8>, AllocError>
-    ensures { IfOk result (λ text. has_float (write (T.doc value.now)) ≡ false
+    ensures text { IfOk result (λ text. has_float (write (T.doc value.now)) ≡ false
         → text.items ≡ compact_text (write (T.doc value.now))) }
+    ensures json { IfOk result (λ text. IsJsonOf (write (T.doc value.now)) text.items) }
 {
     append_text(Vec::with_capacity(alloc, 128)?, value)
 }

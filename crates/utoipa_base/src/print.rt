@@ -1,15 +1,15 @@
-//! Trees printed as JSON, as they stand.
-ghost use Rattle.std.specs.Prelude.{OnOk};
-ghost use Rattle.serde_json.specs.Data.{number};
+//! Numbers printed as JSON.
+ghost use Rattle.std.specs.Prelude.{[], ◌∷◌, OnOk};
 ghost use Rattle.serde_json.specs.View.{number_view};
-ghost use Rattle.utoipa_base.specs.Printed.{Prints};
+ghost use Rattle.utoipa_base.specs.Events.{number};
+ghost use Rattle.utoipa_base.specs.Sent.{AddsTokens};
 
 use json::Writer;
-use serde_json::{Map, Number, Value};
+use serde_json::Number;
 use std::alloc::AllocError;
 
 pub(crate) fn print_number(value: &Number, out: &mut Writer) -> Result<(), AllocError>
-    ensures { OnOk result (Prints (number (number_view value.now)) out.old out.new) }
+    ensures { OnOk result (AddsTokens out.old (number (number_view value.now) ∷ []) out.new) }
 {
     if let Some(unsigned) = value.as_u64() {
         return out.u64(unsigned);

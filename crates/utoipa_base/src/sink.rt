@@ -67,7 +67,7 @@ pub trait JsonSink {
     ghost both: { (a b c : Self) (es fs : List Event) → adds a es b → adds b fs c → adds a (es ++ fs) c };
 }
 
-/// The text of what is sent. Nothing is said of it where a fraction was sent.
+/// The text of what is sent.
 #[tactic(auto, using(crate::proofs::SentTokens::by_events))]
 impl JsonSink for Writer {
     ghost adds = { AddsTokens };

@@ -1,5 +1,5 @@
 //! Types that are read from JSON trees and texts and written as such.
-ghost use Rattle.std.specs.Prelude.{◌≡◌, ◌≤◌, ◌<◌, ◌+◌, ◌++◌, ◌∷◌, ◌↔◌, length, true, false, IsErrOf, Some, IfOk, IfErr, OnOk};
+ghost use Rattle.std.specs.Prelude.{◌≡◌, ◌≤◌, ◌<◌, ◌+◌, ◌++◌, ◌∷◌, ◌↔◌, ℕ, List, length, true, false, IsErrOf, Some, IfOk, IfErr, OnOk};
 ghost use Rattle.json.specs.Reads.{token_of};
 ghost use Rattle.serde_json.specs.Data.{Data};
 ghost use Rattle.serde_json.specs.Read.{read as read_text};
@@ -8,6 +8,7 @@ ghost use Rattle.serde_json.specs.Written.{has_float, compact_text};
 ghost use Rattle.utoipa_base.specs.Kinds.{ref_or};
 ghost use Rattle.utoipa_base.specs.Faults.{Refuses};
 ghost use Rattle.utoipa_base.specs.FromTokens.{FromTokens};
+ghost use Rattle.utoipa_base.specs.Printed.{IsJsonOf};
 ghost use Rattle.utoipa_base.specs.Reading.{read};
 ghost use Rattle.utoipa_base.specs.Reads.{Reads};
 ghost use Rattle.utoipa_base.specs.Refs.{ref_or_doc};
@@ -153,18 +154,22 @@ pub trait Tree: Emit {
 
     /// The text, with the value as JSON at its end: in compact form, the members of each object in the order of their names.
     ///
-    /// Of a value that holds a fraction, which is never read, the text of the fraction is not defined. Fails where memory runs out.
+    /// What was added is read as the tree that the value is written as, with its fractions. The text of a whole number is its
+    /// digits; of a fraction it is one that is read as the fraction, and which is not defined. Fails where memory runs out.
     final fn append_json(&self, _alloc: Global, text: Vec<u8>) -> Result<Vec<u8>, AllocError>
-        ensures { IfOk result (λ longer. has_float (write (Self.doc self.now)) ≡ false
+        ensures text { IfOk result (λ longer. has_float (write (Self.doc self.now)) ≡ false
             → longer.items ≡ text.items ++ compact_text (write (Self.doc self.now))) }
+        ensures json { IfOk result (λ longer. (added : List ℕ) × (longer.items ≡ text.items ++ added)
+            × IsJsonOf (write (Self.doc self.now)) added) }
     {
         append_text(text, self)
     }
 
     /// The value as JSON, as [`Tree::append_json`] writes it. Fails where memory runs out.
     final fn to_json(&self, alloc: Global) -> Result<Vec<u8>, AllocError>
-        ensures { IfOk result (λ text. has_float (write (Self.doc self.now)) ≡ false
+        ensures text { IfOk result (λ text. has_float (write (Self.doc self.now)) ≡ false
             → text.items ≡ compact_text (write (Self.doc self.now))) }
+        ensures json { IfOk result (λ text. IsJsonOf (write (Self.doc self.now)) text.items) }
     {
         written_text(alloc, self)
     }

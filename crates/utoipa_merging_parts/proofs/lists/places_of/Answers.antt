@@ -19,7 +19,7 @@ loop-place-preserved g c =
     let entry = c.index-entries-place.result in
     let plain : IsPlain (f entry) = subst (λ x. IsPlain (f x)) (sym c.index-entries-place.is) (c.requires.plain place entry c.loop-place-test.true) in
     subst (AreKnown c.insert.new.self) (sym (take_item f entries place entry c.loop-place-test.true c.index-entries-place.is))
-    (all_known c.loop-place.places c.insert.new.self c.in_ok-to_json.field-0 place _ (f entry) c.in_ok-insert.ensures.entries (c.in_ok-to_json.ensures (write_plain (f entry) plain)) c.loop-place.invariant)
+    (all_known c.loop-place.places c.insert.new.self c.in_ok-to_json.field-0 place _ (f entry) c.in_ok-insert.ensures.entries (c.in_ok-to_json.ensures.text (write_plain (f entry) plain)) c.loop-place.invariant)
 
 pub returns : goal.returns
 returns g c = subst (λ es. AreKnown c.loop-place.places (map g.T.Documented.doc es)) (take_all c.loop-place.place c.args.entries.now c.loop-place-test.false) c.loop-place.invariant
