@@ -52,3 +52,6 @@ pub mod TokenMaps
 pub mod TokenTables
 pub mod TokenOrderedMaps
 pub mod Fronts
+pub mod PointerPaths
+pub mod LocalReferences
+pub mod ComponentsFound

@@ -7,10 +7,12 @@ ghost use Rattle.serde_json.specs.Written.{has_float};
 ghost use Rattle.utoipa_base.specs.Docs.{Doc};
 ghost use Rattle.utoipa_base.specs.Reading.{read};
 ghost use Rattle.utoipa_base.specs.NormalForm.{normal_form};
+ghost use Rattle.utoipa_base.specs.References.{component, component_map_text, component_of, target_of, at_target, field_of_components, IsNoList};
 ghost use Rattle.utoipa_base.specs.Shape.{IsOf, value_of};
 ghost use Rattle.utoipa_base.specs.WellFormed.{IsPlain, IsWellFormed, IsUnambiguous, ReadsAs};
 ghost use Rattle.utoipa_base.specs.Values.{values, names_values, are_distinct};
 ghost use Rattle.utoipa_base.specs.Writing.{write};
+ghost use Rattle.utoipa_base.specs.declared.refs.component.ComponentMap.{ComponentMap};
 
 use crate::tree::Tree;
 use serde_json::Value;
@@ -50,4 +52,13 @@ pub fn stays_plain<T: Tree>(tree: &Value)
 pub fn members_have_fewer_values(tree: &Value)
     ensures { (names : List (List ℕ)) → are_distinct names ≡ true
         → names_values names (view tree.now) < values (view tree.now) }
+{}
+
+/// Where a reference leads to a component, its JSON Pointer finds in any tree the entry of that name in that map of the components. A tree
+/// with a list in place of that map is no document, and the pointer may find an item of the list.
+pub fn component_stands_there(location: &str, tree: &Value)
+    ensures { (map : ComponentMap) → (name : List ℕ) → component_of location.now ≡ Some (map, name)
+        → IsNoList (field_of_components (component_map_text map) (view tree.now))
+        → at_target (target_of location.now) (view tree.now)
+        ≡ component (component_map_text map) name (view tree.now) }
 {}

@@ -1,8 +1,11 @@
 //! Maps that keep the order in which their entries were put.
 ghost use Rattle.std.specs.Prelude.{◌≡◌, IfOk, string_cmp};
 ghost use Rattle.std.specs.BTreeMap.{IsOrdered};
+ghost use Rattle.std.specs.Map.{keys_of};
+ghost use Rattle.indexmap.specs.IndexMap.{IsEmpty, hasher_of};
 ghost use Rattle.serde_json.specs.Data.{no_members};
 ghost use Rattle.utoipa_base.specs.Kinds.{ordered_map_of};
+ghost use Rattle.utoipa_base.specs.NameHashes.{salt_of_names};
 ghost use Rattle.utoipa_base.specs.OfKind.{ordered_map_of_kind};
 ghost use Rattle.utoipa_base.specs.Views.{ordered_map_of_docs, shown_members, pairs_of};
 ghost use Rattle.utoipa_base.specs.Docs.{entries_of_list};
@@ -40,7 +43,7 @@ impl<T: Tree> Tree for OrderedMap<T> {
         let Some(members) = tree.as_object() else {
             return Err(ReadFault::Kind("map"));
         };
-        let mut map = IndexMap::with_hasher(alloc, NameHasher::from_names(members));
+        let mut map = with_names(alloc, members);
         for (key, member) in members.iter() {
             let name = key.clone()?;
             let value = T::read_plain(alloc, member, readings)?;
@@ -63,7 +66,7 @@ impl<T: Tree> Tree for OrderedMap<T> {
     }
 
     fn try_clone(&self, alloc: Global) -> Result<OrderedMap<T>, AllocError> {
-        let mut map = IndexMap::with_hasher(alloc, *self.hasher());
+        let mut map = under_hasher_of(alloc, self);
         for (key, member) in self.iter() {
             let name = key.clone()?;
             let value = member.try_clone(alloc)?;
@@ -107,15 +110,32 @@ impl<T: Emit, H: BuildHasher + Drop> Emit for IndexMap<String, T, H> {
     }
 }
 
+// A map without entries, under hashes that are salted with these names.
+fn with_names<T, V>(alloc: Global, named: &BTreeMap<String, V>) -> OrderedMap<T>
+    ensures empty { IsEmpty result }
+    ensures salt { (hasher_of result).salt ≡ salt_of_names (keys_of named.now.entries) }
+{
+    IndexMap::with_hasher(alloc, NameHasher::from_names(named))
+}
+
+// A map without entries, under the hashes of another.
+fn under_hasher_of<T>(alloc: Global, other: &OrderedMap<T>) -> OrderedMap<T>
+    ensures empty { IsEmpty result }
+    ensures hasher { hasher_of result ≡ hasher_of other.now }
+{
+    IndexMap::with_hasher(alloc, *other.hasher())
+}
+
 // The same entries, under hashes that are salted with their names. Fails where memory runs out.
 fn in_order_of_names<T: Tree>(
     alloc: Global,
     entries: BTreeMap<String, T>,
 ) -> Result<OrderedMap<T>, AllocError>
     ensures same { IfOk result (λ map. map.entries ≡ entries.entries) }
+    ensures salt { IfOk result (λ map. (hasher_of map).salt ≡ salt_of_names (keys_of entries.entries)) }
     ensures ordered { IsOrdered string_cmp entries }
 {
-    let mut map = IndexMap::with_hasher(alloc, NameHasher::from_names(&entries));
+    let mut map = with_names(alloc, &entries);
     for (name, value) in entries {
         drop(map.insert(name, value)?);
     }

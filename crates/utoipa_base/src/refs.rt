@@ -19,7 +19,7 @@ mod builder;
 mod component;
 
 pub use builder::RefBuilder;
-use component::component_at;
+use component::component_at_location;
 pub use component::{ComponentKey, ComponentMap};
 
 // The rows of a reference, in the order of the members' names: mark, member, field.
@@ -93,14 +93,15 @@ impl Ref {
         Ok(Ref::new(alloc, joined(alloc, RESPONSES, response_name)?))
     }
 
-    /// The component of the same document that the reference leads to: where `$ref` is `#/components/`, the field of a map, `/` and a name.
+    /// The component of the same document that the reference leads to: where `$ref` is `#` and a JSON Pointer, percent-decoded (RFC 6901,
+    /// section 6), whose tokens are `components`, the field of a map, and a name. A name with neither `%` nor `~` takes no memory. Fails
+    /// where memory runs out.
     ///
-    /// There is none where it leads elsewhere, into a component, or to a name that is empty or has a `/`, `~` or `%`: such a name stands
-    /// otherwise in a reference (RFC 6901, sections 3 and 6), and components have none (OpenAPI 3.1, section 4.8.7).
-    pub fn component(&self) -> Option<ComponentKey<'_>>
-        ensures { option_map key_of result ≡ component_of (string_bytes self.now.ref_location) }
+    /// There is none where it leads elsewhere, or into a component, or where the fragment is not UTF-8.
+    pub fn component(&self, alloc: Global) -> Result<Option<ComponentKey<'_>>, AllocError>
+        ensures { IfOk result (λ found. option_map key_of found ≡ component_of (string_bytes self.now.ref_location)) }
     {
-        component_at(&self.ref_location)
+        component_at_location(alloc, &self.ref_location)
     }
 
     /// A builder that begins with a reference to the empty URI. Takes no memory.

@@ -63,8 +63,8 @@ fn answer_to_call(alloc: Global, call: &Call<'_>) -> Result<String, AllocError> 
 // The map and the name of the component that a reference to the location leads to.
 fn component_of(alloc: Global, location: &str) -> Result<String, AllocError> {
     let reference = Ref::new(alloc, String::from_str(alloc, location)?);
-    match reference.component() {
-        Some(key) => format!(in alloc; "{} {}", key.map.as_text(), key.name),
+    match reference.component(alloc)? {
+        Some(key) => format!(in alloc; "{} {}", key.map.as_text(), key.name.as_str()),
         None => String::from_str(alloc, "none"),
     }
 }

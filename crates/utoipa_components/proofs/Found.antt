@@ -1,8 +1,7 @@
 -- Why a loop that follows references from place to place comes to the value that is defined.
-use Rattle.std.proofs.Common.{◌≡◌, ◌+◌, ◌-◌, ◌≤◌, ℕ, suc, Option, Some, option_and_then, List, ap, sym, ◌∙◌, subst, arith}
-use Rattle.std.specs.BTreeMap.{get_by_text}
+use Rattle.std.proofs.Common.{◌≡◌, ◌+◌, ◌-◌, ◌≤◌, ℕ, suc, Option, Some, option_and_then, ap, sym, ◌∙◌, subst, arith}
 use Rattle.utoipa_components.specs.Components.{PlacesByName}
-use Rattle.utoipa_components.specs.Resolve.{name_in, referred, found}
+use Rattle.utoipa_components.specs.Resolve.{referred, found}
 use Rattle.utoipa_base.specs.declared.refs.Ref.{Ref}
 use Rattle.utoipa_base.specs.declared.refs.RefOr.{RefOr}
 use Rattle.utoipa_base.specs.declared.refs.RefOr.TheVariants as places
@@ -25,8 +24,6 @@ module _ {X : Type 0} (map : ComponentMap) (entries : PlacesByName X) (end passe
   at_reference : (reference : Ref) → place ≡ places.Ref reference → option_and_then (found (end + 1 - (passed + 1)) map entries) (referred map entries reference) ≡ whole
   at_reference reference is = subst (λ p. found (suc (end + 1 - (passed + 1))) map entries p ≡ whole) is looked
 
-  -- at a reference to a name
-  pub at_name : (reference : Ref) (name : List ℕ) (next : Option (RefOr X)) → place ≡ places.Ref reference → Some name ≡ name_in map reference → next ≡ get_by_text entries name
-      → option_and_then (found (end + 1 - (passed + 1)) map entries) next ≡ whole
-  at_name reference name next is named found_there =
-      ap (option_and_then (found (end + 1 - (passed + 1)) map entries)) (found_there ∙ ap (option_and_then (get_by_text entries)) named) ∙ at_reference reference is
+  -- at a reference, by the place that it leads to
+  pub at_entry : (reference : Ref) (next : Option (RefOr X)) → place ≡ places.Ref reference → next ≡ referred map entries reference → option_and_then (found (end + 1 - (passed + 1)) map entries) next ≡ whole
+  at_entry reference next is leads = ap (option_and_then (found (end + 1 - (passed + 1)) map entries)) leads ∙ at_reference reference is

@@ -1,6 +1,6 @@
 use Rattle.std.proofs.Common.{◌≡◌, None, Some, ◌+◌, ◌-◌, length, suc, ap, ◌∙◌, arith}
 use Rattle.utoipa_components.specs.Resolve.{found}
-use Rattle.utoipa_components.proofs.Found.{at_value, at_name}
+use Rattle.utoipa_components.proofs.Found.{at_value, at_entry}
 use Rattle.utoipa_components.proofs.resolve.value_in.Goals as goal
 
 pub loop-init : goal.loop-init
@@ -13,11 +13,10 @@ returns-in-T g c = at_value c.args.map c.args.entries.now c.len-end.result c.loo
 
 pub loop-preserved : goal.loop-preserved
 loop-preserved g c =
-    at_name c.args.map c.args.entries.now c.len-end.result c.loop.counter c.loop-test.true c.loop.reached.now _ c.loop.invariant
-    c.in-Ref.reference c.in_ok-name_in-in-Ref.field-0.now (Some c.in_ok-reached-in-Ref.reached.now) c.in-Ref.is c.in_ok-name_in-in-Ref.ensures c.in_ok-reached-in-Ref.ensures.value
+    at_entry c.args.map c.args.entries.now c.len-end.result c.loop.counter c.loop-test.true c.loop.reached.now _ c.loop.invariant
+    c.in-Ref.reference (Some c.in-Some.entry.now) c.in-Ref.is c.in_ok-entry_at-in-Ref.ensures
 
-pub returns-in_err-reached-in-Ref : goal.returns-in_err-reached-in-Ref
-returns-in_err-reached-in-Ref g c =
-    rw c.from_residual-in_err-reached-in-Ref.ensures
-    (at_name c.args.map c.args.entries.now c.len-end.result c.loop.counter c.loop-test.true c.loop.reached.now _ c.loop.invariant
-    c.in-Ref.reference c.in_ok-name_in-in-Ref.field-0.now None c.in-Ref.is c.in_ok-name_in-in-Ref.ensures c.in_err-reached-in-Ref.ensures.value)
+pub returns-in_default : goal.returns-in_default
+returns-in_default g c =
+    at_entry c.args.map c.args.entries.now c.len-end.result c.loop.counter c.loop-test.true c.loop.reached.now _ c.loop.invariant
+    c.in-Ref.reference None c.in-Ref.is c.in_ok-entry_at-in-Ref.ensures

@@ -4,7 +4,7 @@ use Rattle.utoipa_base.proofs.OrderedMaps.{ordered_copied_step, ordered_map_copi
 use Rattle.utoipa_base.proofs.ordered_map.OrderedMapTree.try_clone.Goals as goal
 
 pub loop-key-init : goal.loop-key-init
-loop-key-init g c = copied_begun _ _ _ _ (c.into_iter-key-iterator.ensures.into_iter_gives ∙ c.iter-key-items.ensures.rest) c.with_hasher-map.ensures.empty
+loop-key-init g c = copied_begun _ _ _ _ (c.into_iter-key-iterator.ensures.into_iter_gives ∙ c.iter-key-items.ensures.rest) c.under_hasher_of-map.ensures.empty
 
 pub loop-key-preserved : goal.loop-key-preserved
 loop-key-preserved g c =
