@@ -1,8 +1,8 @@
 -- For users of the model, and for whoever checks it: which field of a type stands in its document under which name.
 --
 -- Each type with a member table has a theorem, called `reference_members` here, of Ref. It reads like the table, a line for each member: the name,
--- and the document of the field that stands there. It holds by computing. The page `Members` of each crate has the theorems of the crate's types.
--- A contract cites one line of a theorem by `field_is`.
+-- and the document of the field that stands there. The page `Members` of each crate has the theorems of the crate's types. The sections are those of
+-- OpenAPI 3.1. Most theorems hold by computing. A proof cites one line of a theorem by `field_is`.
 use Prim.Native.String.{String}
 use Rattle.std.proofs.Common.{◌∙◌, ap}
 use Rattle.std.specs.Prelude.{◌≡◌, refl, ℕ, List, [], ◌∷◌, if◌then◌else◌, codes}
