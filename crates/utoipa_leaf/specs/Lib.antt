@@ -1,6 +1,7 @@
 pub mod Example
 pub mod ExternalDocs
 pub mod Info
+pub mod Members
 pub mod Path
 pub mod Server
 pub mod Tag

@@ -10,32 +10,13 @@ use Rattle.std.specs.BTreeMap.{is_at}
 use Rattle.serde_json.specs.Data.{Data, Members}
 use Rattle.serde_json.specs.Find.{get_member}
 use Rattle.utoipa_base.specs.Kinds.{Row}
-use Rattle.utoipa_base.specs.Docs.{Doc, none_doc, some_doc, list_doc, map_doc, entries_doc, table_doc, Docs, no_docs, doc, Entries, no_entries, entry, entries_of_list}
+use Rattle.utoipa_base.specs.Docs.{Doc, some_doc, list_doc, map_doc, entries_doc, table_doc, Docs, no_docs, doc, Entries, no_entries, entry, entries_of_list}
 use Rattle.utoipa_base.specs.Extensions.{members_or_none}
+-- the field of an object by the name of its member
+pub use Rattle.utoipa_base.specs.Members.{field_at, row_field, first_doc, rest_docs}
 use Rattle.utoipa_base.specs.Tables.{table}
 
 -- ---- looking into a document. What is looked for in a field that may be absent is looked for in what it holds
-
--- the first, and where there is none a field that is absent
-abbrev pub first_doc : Docs → Doc
-first_doc no_docs = none_doc
-first_doc (doc d ds) = d
-
--- those after the first
-abbrev pub rest_docs : Docs → Docs
-rest_docs no_docs = no_docs
-rest_docs (doc d ds) = ds
-
--- the field at the first row of this name
-abbrev pub row_field : List ℕ → List Row → Docs → Doc
-row_field name [] ds = none_doc
-row_field name (r ∷ rs) ds = if bytes_eq name r.name then first_doc ds else row_field name rs (rest_docs ds)
-
--- the field of an object by the name of its member
-abbrev pub field_at : List ℕ → Doc → Doc
-field_at name (some_doc d) = field_at name d
-field_at name (table_doc n ds e) = row_field name (table n) ds
-field_at name d = none_doc
 
 -- the first row of this name changed
 abbrev pub change_row : List ℕ → (Doc → Doc) → List Row → Docs → Docs
