@@ -21,7 +21,14 @@ pub mod TextsMerged
 pub mod WellFormedMerged
 pub mod MapViews
 pub mod Lookups
+pub mod Inserted
 pub mod PutEach
+pub mod Gathered
+pub mod EqualDocs
+pub mod MadeParts
+pub mod MadePaths
+pub mod MadeDocuments
+pub mod MadeNested
 pub mod ItemWalks
 pub mod Filled
 pub mod Examples

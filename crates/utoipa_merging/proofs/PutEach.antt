@@ -2,9 +2,8 @@
 use Rattle.std.proofs.Common.{◌≡◌, ℕ, List, [], ◌∷◌, Bool, true, false, cond, Some, refl, sym, ap, ◌∙◌, String, Global, Ordering, Less, Equal, Greater, string_bytes, string_cmp, nat_cmp, subst, Result, Ok, Err, OnOk, OnErr}
 use Rattle.std.specs.Option.{option_or}
 use Rattle.std.specs.Str.{bytes_eq}
-use Rattle.std.specs.Ordering.{match_ordering, ordering_reverse}
+use Rattle.std.specs.Ordering.{match_ordering}
 use Rattle.std.specs.Cmp.Lexicographic.{slice_cmp}
-use Rattle.std.specs.List.{AllByRecursion}
 use Rattle.std.specs.List.Sorted.{IsStrictlySortedBy}
 use Rattle.std.specs.Map.{keys_of}
 use Rattle.std.specs.BTreeMap.{insert_entry}
@@ -13,15 +12,16 @@ use Rattle.std.proofs.lemmas.Cmp.{nat_list_cmp_total, tied_itself}
 use Rattle.std.proofs.lemmas.Map.Keys.{sorted_tail}
 use Rattle.std.proofs.lemmas.Map.Lookups.{exact_bytes}
 use Rattle.utoipa_base.specs.Fill.{Pairs, put_each}
+use Rattle.utoipa_merging.proofs.Inserted.{sorted_insert}
 use Rattle.utoipa_merging.proofs.Lookups.{found, found-cons, same_text, found_past}
 
 -- ---- what is found by the bytes of a name
 
-again : {A : Type 0} (b : Bool) (x y o : A) → cond b x o ≡ cond b x (cond b y o)
+pub again : {A : Type 0} (b : Bool) (x y o : A) → cond b x o ≡ cond b x (cond b y o)
 again true x y o = refl
 again false x y o = refl
 
-swapped : {A : Type 0} (b c : Bool) (x y o : A) → (b ≡ true → c ≡ true → ⊥) → cond b x (cond c y o) ≡ cond c y (cond b x o)
+pub swapped : {A : Type 0} (b c : Bool) (x y o : A) → (b ≡ true → c ≡ true → ⊥) → cond b x (cond c y o) ≡ cond c y (cond b x o)
 swapped true true x y o apart = absurd (apart refl refl)
 swapped true false x y o apart = refl
 swapped false c x y o apart = refl
@@ -69,32 +69,9 @@ found-put_each (p ∷ ps) es sorted q =
 
 -- ---- the order of the names
 
-above_weaker : (a b : String Global) (ks : List (String Global)) → string_cmp a b ≡ Less → AllByRecursion (λ y. string_cmp b y ≡ Less) ks → AllByRecursion (λ y. string_cmp a y ≡ Less) ks
-above_weaker a b [] below h = tt
-above_weaker a b (k ∷ ks) below h = (string_cmp_total.trans a b k below h.0, above_weaker a b ks below h.1)
-
-all_put_at : {X : Type 0} (o : Ordering) (P : String Global → Type 0) (e : String Global × X) (es : Pairs X) (k : String Global) (v : X) → P k → AllByRecursion P (keys_of (e ∷ es)) → AllByRecursion P (keys_of (insert_entry string_cmp es k v))
-    → AllByRecursion P (keys_of (match_ordering o ((k, v) ∷ e ∷ es) ((e.0, v) ∷ es) (e ∷ insert_entry string_cmp es k v)))
-all_put_at Less P e es k v here h later = (here, h)
-all_put_at Equal P e es k v here h later = h
-all_put_at Greater P e es k v here h later = (h.0, later)
-
-all_put : {X : Type 0} (P : String Global → Type 0) (es : Pairs X) (k : String Global) (v : X) → P k → AllByRecursion P (keys_of es) → AllByRecursion P (keys_of (insert_entry string_cmp es k v))
-all_put P [] k v here h = (here, tt)
-all_put P (e ∷ es) k v here h = all_put_at (string_cmp k e.0) P e es k v here h (all_put P es k v here h.1)
-
-sorted_put_at : {X : Type 0} (o : Ordering) (e : String Global × X) (es : Pairs X) (k : String Global) (v : X) → string_cmp k e.0 ≡ o → IsStrictlySortedBy string_cmp (keys_of (e ∷ es)) → IsStrictlySortedBy string_cmp (keys_of (insert_entry string_cmp es k v))
-    → IsStrictlySortedBy string_cmp (keys_of (match_ordering o ((k, v) ∷ e ∷ es) ((e.0, v) ∷ es) (e ∷ insert_entry string_cmp es k v)))
-unfolding IsStrictlySortedBy
-sorted_put_at Less e es k v is h later = ((is, above_weaker k e.0 (keys_of es) is h.0), h)
-sorted_put_at Equal e es k v is h later = h
-sorted_put_at Greater e es k v is h later = (all_put (λ y. string_cmp e.0 y ≡ Less) es k v (string_cmp_total.antisymm e.0 k ∙ ap ordering_reverse is) h.0, later)
-
 -- names in order stay so when an entry is put
 pub sorted-insert_entry : {X : Type 0} (es : Pairs X) (k : String Global) (v : X) → IsStrictlySortedBy string_cmp (keys_of es) → IsStrictlySortedBy string_cmp (keys_of (insert_entry string_cmp es k v))
-unfolding IsStrictlySortedBy
-sorted-insert_entry [] k v h = (tt, tt)
-sorted-insert_entry (e ∷ es) k v h = sorted_put_at (string_cmp k e.0) e es k v refl h (sorted-insert_entry es k v h.1)
+sorted-insert_entry es k v h = sorted_insert string_cmp_total es k v h
 
 -- and when each entry of another map is put
 pub sorted-put_each : {X : Type 0} (ps es : Pairs X) → IsStrictlySortedBy string_cmp (keys_of es) → IsStrictlySortedBy string_cmp (keys_of (put_each ps es))

@@ -1,5 +1,5 @@
 //! What holds of all documents that are merged or nested, as contracts of functions that do nothing.
-ghost use Rattle.std.specs.Prelude.{◌≡◌, ◌≤◌, ◌↔◌, ◌∷◌, ◌++◌, ℕ, List, [], All, Some, false, option_and_then};
+ghost use Rattle.std.specs.Prelude.{◌≡◌, ◌≤◌, ◌↔◌, ◌∷◌, ◌++◌, ℕ, List, [], All, Some, false, length, option_and_then};
 ghost use Rattle.serde_json.specs.Data.{Data, depth};
 ghost use Rattle.serde_json.specs.Read.{max_depth, read as read_text};
 ghost use Rattle.utoipa_base.specs.Docs.{Doc};
@@ -21,7 +21,7 @@ ghost use Rattle.utoipa_merging.specs.Merged.{
   leaves,
 };
 ghost use Rattle.utoipa_merging.specs.Nested.{IsNested, mounted_at};
-ghost use Rattle.utoipa_merging.specs.Slots.{ItemSlot, extension_at, has_extensions, item_slot, path_slot, paths_of};
+ghost use Rattle.utoipa_merging.specs.Slots.{ItemSlot, entries_in, extension_at, has_extensions, item_slot, path_slot, paths_of};
 ghost use Rattle.utoipa_merging.specs.Sorted.{IsSorted};
 ghost use Rattle.utoipa_merging.specs.Texts.{AreTextsMerged, AreTextsMergedByPairs, IsTextOf, IsUnambiguousText, IsWrittenAs, TextBrackets, text_leaves};
 
@@ -48,6 +48,13 @@ pub fn merged_in_one_way()
         → IsInKeyOrder c → IsInKeyOrder d → c ≡ d }
 {}
 
+/// One document or more have a merged document with its maps in the order of their keys, whatever the documents are. There is no other
+/// ([`merged_in_one_way`]).
+pub fn merged_in_some_way()
+    ensures { (d : Doc) (documents : List Doc) → All IsOpenApi (d ∷ documents)
+        → (merged : Doc) × IsMerged (d ∷ documents) merged × IsInKeyOrder merged }
+{}
+
 /// A document alone is merged already.
 pub fn one_document()
     ensures { (d : Doc) → IsOpenApi d → IsMerged (d ∷ []) d }
@@ -69,6 +76,14 @@ pub fn nested_in_one_way()
     ensures { (answers : List (List ℕ)) (own nested c d : Doc) → IsOpenApi own → IsNested answers own nested c
         → IsNested answers own nested d
         → IsInKeyOrder c → IsInKeyOrder d → c ≡ d }
+{}
+
+/// A document can be nested into another if each nested path has an answer: there is such a document with its maps in the order of their
+/// keys. There is no other ([`nested_in_one_way`]).
+pub fn nested_in_some_way()
+    ensures { (answers : List (List ℕ)) (own nested : Doc) → length answers ≡ length (entries_in (paths_of nested))
+        → IsOpenApi own → IsOpenApi nested
+        → (d : Doc) × IsNested answers own nested d × IsInKeyOrder d }
 {}
 
 /// After nesting an answered path has the whole item of the last nested path with this answer, and every other path its own.
