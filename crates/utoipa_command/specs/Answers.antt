@@ -1,24 +1,19 @@
 -- What a request has as its answer to the bytes of an input, and why it refuses them.
-use Rattle.std.specs.Prelude.{◌≡◌, ◌≢◌, ℕ, List, [], ◌∷◌, ◌++◌, true, false, if◌then◌else◌, Option, None, Some, map, length}
+use Rattle.std.specs.Prelude.{◌≡◌, ◌≢◌, ℕ, List, [], ◌∷◌, ◌++◌, true, false, Option, None, Some, map, length}
 use Rattle.std.specs.Map.{keys_of}
-use Rattle.std.specs.Str.{is_utf8}
 use Rattle.serde_json.specs.Data.{Data}
-use Rattle.serde_json.specs.Read.{read as read_text}
 use Rattle.serde_json.specs.Written.{has_float, compact_text}
 use Rattle.utoipa_base.specs.Docs.{Doc}
 use Rattle.utoipa_base.specs.Kinds.{Kind, list_of, named, ref_or, schema as schema_kind, server_object, open_api_object}
 use Rattle.utoipa_base.specs.Reading.{read}
 use Rattle.utoipa_base.specs.Writing.{write}
+use Rattle.utoipa_findings.specs.Sources.{tree_of}
 use Rattle.utoipa_merging.specs.Merged.{IsMerged, IsInKeyOrder}
 use Rattle.utoipa_merging.specs.Nested.{IsNested}
 use Rattle.utoipa_merging.specs.Slots.{entries_in, items_in, paths_of}
 use Rattle.utoipa_command.specs.Commands.{Request, server, schema, document, merge, nest}
 use Rattle.utoipa_command.specs.declared.refusal.Refusal.{Refusal}
 use Rattle.utoipa_command.specs.declared.refusal.Refusal.TheVariants.{Memory, Read, Write, Text, Fraction, Missing, Kind as NoKind, Word, Alternative, Empty, Count}
-
--- the tree of the bytes, if they are UTF-8 and JSON
-abbrev pub tree_of : List ℕ → Option Data
-tree_of bytes = if is_utf8 bytes then read_text bytes else None
 
 -- the kind of the document that a request reads
 abbrev pub input_kind : Request → Kind
