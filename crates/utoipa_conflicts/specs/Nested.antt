@@ -34,6 +34,10 @@ items_in (Some paths) = each_member item_unless_extension (members_at paths)
 abbrev pub path_items : Data → List ItemAt
 path_items d = items_in (get (codes "paths") d)
 
+-- their paths, to which a composer answers one after the other
+abbrev pub nested_paths : Data → List (List ℕ)
+nested_paths d = map (λ i. i.0) (path_items d)
+
 -- items, each at the composer's answer to its path
 abbrev pub answered : (answers : List (List ℕ)) → List ItemAt → List ItemAt
 answered [] items = []
