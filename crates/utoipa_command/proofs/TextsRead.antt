@@ -9,9 +9,9 @@ use Rattle.utoipa_base.specs.Kinds as kinds
 use Rattle.utoipa_base.specs.Texts as base
 use Rattle.utoipa_base.specs.declared.fault.ReadFault.{ReadFault}
 use Rattle.utoipa_base.specs.declared.fault.ReadFault.TheVariants as fault
-use Rattle.utoipa_findings.specs.Sources.{tree_of}
+use Rattle.utoipa_findings.specs.Sources.{tree_of, IsSourceOf}
 use Rattle.utoipa_findings.proofs.Fitting.{passed_on}
-use Rattle.utoipa_command.specs.Answers.{input_kind, AnswersInput, IsAnswer, IsCause, IsCauseInTree, IsCauseOfText, IsReadAs, IsTextRewritten}
+use Rattle.utoipa_command.specs.Answers.{input_kind, AnswersInput, IsAnswer, IsCause, IsCauseInTree, IsCauseOfText, IsTextRewritten}
 use Rattle.utoipa_command.specs.Commands.{Request}
 use Rattle.utoipa_command.specs.Messages.{refusal_of}
 use Rattle.utoipa_command.specs.declared.refusal.Refusal.{Refusal}
@@ -19,8 +19,8 @@ use Rattle.utoipa_command.specs.declared.refusal.Refusal.TheVariants.{Memory, Re
 use Rattle.utoipa_command.proofs.Trees.{cause_in_tree, has_tree, has_no_tree}
 
 -- what a text is read as, its bytes are read as
-pub read_as : (k : kinds.Kind) (bytes text : List ℕ) (d : Doc) → text ≡ bytes → IsUtf8 bytes → base.IsTextOf k d text → IsReadAs k bytes d
-read_as k bytes text d same utf8 h = record { tree = h.tree; has = has_tree bytes h.tree utf8 (ap read_text (sym same) ∙ h.has); plain = h.plain; reads = h.reads }
+pub read_as : (k : kinds.Kind) (bytes text : List ℕ) (d : Doc) → text ≡ bytes → IsUtf8 bytes → base.IsTextOf k d text → IsSourceOf k d bytes
+read_as k bytes text d same utf8 h = record { tree = h.tree; has = has_tree bytes h.tree utf8 (ap read_text (sym same) ∙ h.has); reads = (h.plain, h.reads) }
 
 -- why a text is refused, its bytes are refused
 refused_as : (k : kinds.Kind) (bytes text : List ℕ) (e : ReadFault) → text ≡ bytes → IsUtf8 bytes → base.RefusesText k text e → IsCauseOfText k bytes (refusal_of e)

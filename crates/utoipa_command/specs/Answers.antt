@@ -140,20 +140,6 @@ IsCause r bytes Count = HasOtherCount r bytes
 
 -- ---- for private clauses: a tree that is read as a document of a kind
 
--- why a tree is refused so that is to be a document of the kind
-abbrev pub IsCauseOfKind : Kind → Data → Refusal → Type 0
-IsCauseOfKind k t Memory = Unit {0}
-IsCauseOfKind k t Read = ⊥
-IsCauseOfKind k t Write = ⊥
-IsCauseOfKind k t Text = ⊥
-IsCauseOfKind k t Fraction = has_float t ≡ true
-IsCauseOfKind k t Missing = (has_float t ≡ false) × (read k t ≡ None)
-IsCauseOfKind k t NoKind = (has_float t ≡ false) × (read k t ≡ None)
-IsCauseOfKind k t Word = (has_float t ≡ false) × (read k t ≡ None)
-IsCauseOfKind k t Alternative = (has_float t ≡ false) × (read k t ≡ None)
-IsCauseOfKind k t Empty = ⊥
-IsCauseOfKind k t Count = ⊥
-
 -- the line is that of the document of the kind that the tree is, which is plain
 pub record IsRewritten (k : Kind) (t : Data) (line : List ℕ) : Type 0 where
   pub plain : has_float t ≡ false
@@ -161,14 +147,7 @@ pub record IsRewritten (k : Kind) (t : Data) (line : List ℕ) : Type 0 where
   pub reads : read k t ≡ Some document
   pub text : line ≡ line_of (write document)
 
--- ---- a text that is read as a document of a kind
-
--- the bytes have a plain tree, which is read as this document of the kind
-pub record IsReadAs (k : Kind) (bytes : List ℕ) (d : Doc) : Type 0 where
-  pub tree : Data
-  pub has : tree_of bytes ≡ Some tree
-  pub plain : has_float tree ≡ false
-  pub reads : read k tree ≡ Some d
+-- ---- a text that is to be a document of a kind
 
 -- the bytes have a plain tree that is no document of the kind
 abbrev pub IsOtherText : Kind → List ℕ → Type 0
