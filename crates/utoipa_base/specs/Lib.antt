@@ -38,3 +38,4 @@ pub mod SentAmong
 pub mod FromTokens
 pub mod OpenRows
 pub mod Texts
+pub mod Members

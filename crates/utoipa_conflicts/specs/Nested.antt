@@ -8,13 +8,14 @@ use Rattle.serde_json.specs.Data.{Data}
 use Rattle.serde_json.specs.Find.{get}
 use Rattle.utoipa_base.specs.Docs.{Doc}
 use Rattle.utoipa_base.specs.Extensions.{is_extension}
+use Rattle.utoipa_base.specs.Members.{each_member}
 use Rattle.utoipa_base.specs.Writing.{write}
 use Rattle.utoipa_check.specs.Places.{members_at}
 use Rattle.utoipa_merging.specs.Rules.{last_of}
 use Rattle.utoipa_conflicts.specs.Conflicts.{Slot, document_member, component_entry, components_extension, paths_extension, operation, named_operation, base_member, component, has, place_of_item, slots, Conflict, dropped_by}
 use Rattle.utoipa_conflicts.specs.Merged.{Told, in_text}
 use Rattle.utoipa_conflicts.specs.Same.{is_same}
-use Rattle.utoipa_conflicts.specs.Trees.{Place, each_member}
+use Rattle.utoipa_conflicts.specs.Trees.{Place}
 
 -- ---- items
 

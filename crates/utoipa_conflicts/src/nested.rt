@@ -4,10 +4,10 @@ ghost use Rattle.std.specs.BTreeMap.{get_by_text};
 ghost use Rattle.std.specs.List.{flat_map};
 ghost use Rattle.serde_json.specs.Find.{get};
 ghost use Rattle.serde_json.specs.View.{view, members_view};
+ghost use Rattle.utoipa_base.specs.Members.{each_member};
 ghost use Rattle.utoipa_check.specs.Views.{outwards};
 ghost use Rattle.utoipa_conflicts.specs.Conflicts.{place_of_item, dropped_by};
 ghost use Rattle.utoipa_conflicts.specs.Nested as specs;
-ghost use Rattle.utoipa_conflicts.specs.Trees.{each_member};
 ghost use Rattle.utoipa_conflicts.specs.Views.{all_conflicts, all_filled, all_items, filled_of, item_of, slot_of};
 
 use crate::conflict::{Conflict, put_if_dropped, value_in};
