@@ -80,9 +80,7 @@ fn operations<'a>(alloc: Global) -> Result<Command<'a>, AllocError> {
 
 fn stats<'a>(alloc: Global) -> Result<Command<'a>, AllocError> {
     Command::new(alloc, "stats")
-        .about(
-            "Counts the paths, webhooks, operations, schemas, readings, depth and bytes of a document",
-        )
+        .about("Counts the paths, webhooks, operations, schemas, depth and bytes of a document")
         .arg(file(alloc, "FILE", "The document"))
 }
 

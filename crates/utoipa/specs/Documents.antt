@@ -13,7 +13,7 @@ pub use Rattle.utoipa_base.specs.declared.fault.ReadFault.{ReadFault}
 -- texts: what one is read as, and why one is refused
 pub use Rattle.utoipa_base.specs.Texts.{IsTextOf, RefusesText}
 pub use Rattle.utoipa_merging.specs.Texts.{IsTextOf as IsTextOfDocument}
-pub use Rattle.utoipa.specs.Texts.{RefusesText as RefusesTextOfDocument, pretty_text}
+pub use Rattle.utoipa.specs.Texts.{pretty_text}
 pub use Rattle.serde_json.specs.Data.{Data, depth}
 pub use Rattle.serde_json.specs.View.{view}
 pub use Rattle.serde_json.specs.Read.{read as read_text, max_depth}

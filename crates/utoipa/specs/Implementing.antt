@@ -13,7 +13,7 @@ pub use Rattle.utoipa_compose.specs.Made.{int32, int64, signed, unsigned32, unsi
 pub use Rattle.utoipa_compose.specs.Compositions.{place_doc, place_docs, Named, AreAppended, Composition, always, part, same_as, option_composed, list_composed, set_composed, map_composed}
 pub use Rattle.utoipa_compose.specs.declared.fault.ComposeFault.TheVariants.{Memory, KeyIsReference}
 -- schemas that recur, and a schema of which more is said
-pub use Rattle.utoipa.specs.OwnSchemas.{with_member, described_as, schema_ref, text_among, text_tree, required_names, field_schemas, with_field}
+pub use Rattle.utoipa.specs.OwnSchemas.{with_member, described_as, schema_ref, text_among, text_tree, required_names, with_name, without_name, field_schemas, with_field}
 pub use Rattle.utoipa_schema_parts.specs.declared.types.TypeWord.TheVariants as type_words
 pub use Rattle.utoipa_schema_parts.specs.declared.format.KnownFormat.TheVariants as known_formats
 -- operations of paths: what Path says of one, its methods

@@ -1,13 +1,15 @@
 -- The schemas that a program's own types have most, as documents.
-use Rattle.std.specs.Prelude.{ℕ, List, map, codes, string_bytes}
+use Rattle.std.specs.Prelude.{ℕ, List, [], ◌∷◌, ◌++◌, if◌then◌else◌, not, filter, map, codes, string_bytes}
 use Rattle.std.specs.BTreeMap.{insert_entry}
 use Rattle.std.specs.Cmp.Lexicographic.{slice_cmp}
 use Rattle.std.specs.Ordering.{nat_cmp}
+use Rattle.std.specs.Str.{bytes_eq}
 use Rattle.serde_json.specs.Data.{string}
 use Rattle.utoipa_base.specs.Docs.{Doc, text_doc, tree_doc, list_doc, some_doc, own_doc, ref_doc, docs_of}
 use Rattle.utoipa_base.specs.Docs as docs
 use Rattle.utoipa_base.specs.Kinds.{schema as schema_kind}
 use Rattle.utoipa_base.specs.References.{schema_location}
+use Rattle.utoipa_base.specs.Values.{is_one_of}
 use Rattle.utoipa_base.specs.Views.{pairs_of}
 use Rattle.utoipa_compose.specs.Compositions.{place_doc}
 use Rattle.utoipa_compose.specs.Made.{text}
@@ -41,6 +43,14 @@ abbrev pub text_among : List (List ℕ) → Doc
 text_among texts = with_member (codes "enum") (some_doc (list_doc (docs_of (map text_tree texts)))) text
 
 -- ---- the fields of a struct
+
+-- the names with this one among them: at the end, unless it is there already
+abbrev pub with_name : (name : List ℕ) → List (List ℕ) → List (List ℕ)
+with_name name names = if is_one_of name names then names else names ++ name ∷ []
+
+-- the names without this one
+abbrev pub without_name : (name : List ℕ) → List (List ℕ) → List (List ℕ)
+without_name name names = filter (λ n. not (bytes_eq name n)) names
 
 -- the names of those that have to be there, in the order in which they were put
 abbrev pub required_names : Fields → List (List ℕ)

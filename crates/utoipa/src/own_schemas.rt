@@ -1,11 +1,12 @@
 //! The schemas that a program's own types have most: an object with a property for each field, one of several texts, and a reference to a
 //! schema of the components. What each call makes is told as a document, as the ghost members of the traits tell it.
-ghost use Rattle.std.specs.Prelude.{◌≡◌, ◌++◌, ◌∷◌, [], IfOk, OnOk, map, string_bytes};
+ghost use Rattle.std.specs.Prelude.{◌≡◌, [], IfOk, OnOk, map, string_bytes};
 ghost use Rattle.utoipa_base.specs.Docs.{Doc};
+ghost use Rattle.utoipa_base.specs.Values.{is_one_of};
 ghost use Rattle.utoipa_base.specs.Views.{pairs_of, tree_of};
 ghost use Rattle.utoipa_compose.specs.Compositions.{place_doc};
 ghost use Rattle.utoipa_compose.specs.Made.{struct_of};
-ghost use Rattle.utoipa.specs.OwnSchemas.{field_schemas, required_names, schema_ref as schema_ref_doc, text_among as text_among_doc, text_tree, with_field};
+ghost use Rattle.utoipa.specs.OwnSchemas.{field_schemas, required_names, schema_ref as schema_ref_doc, text_among as text_among_doc, text_tree, with_field, with_name, without_name};
 ghost use Rattle.utoipa.specs.Tags.{texts_of};
 
 use serde_json::Value;
@@ -33,8 +34,8 @@ impl Fields {
         }
     }
 
-    /// Puts a field that has to be there under its name, in place of an earlier one of that name (JSON Schema 2020-12, Validation, section
-    /// 6.5.3).
+    /// Adds a field that has to be there. It replaces an earlier field of that name, and `required` lists each name once (JSON Schema 2020-12,
+    /// Validation, section 6.5.3).
     ///
     /// Fails where memory runs out, and then gives up the fields.
     pub fn required(
@@ -43,16 +44,16 @@ impl Fields {
         name: &str,
         schema: RefOr<Schema>,
     ) -> Result<Fields, AllocError>
-        ensures names { IfOk result (λ fields. required_names fields ≡ required_names self ++ name.now ∷ []) }
+        ensures names { IfOk result (λ fields. required_names fields ≡ with_name name.now (required_names self)) }
         ensures schemas { IfOk result (λ fields. field_schemas fields
             ≡ with_field name.now (place_doc schema) (field_schemas self)) }
     {
-        let required = push_name(&mut self.required, alloc, name);
+        let required = add_name(&mut self.required, alloc, name);
         let put = put_under(&mut self.properties, alloc, name, schema);
         required.and(put).and(Ok(self))
     }
 
-    /// Puts a field that may be absent under its name, in place of an earlier one of that name.
+    /// Adds a field that may be absent. It replaces an earlier field of that name, even one that had to be there.
     ///
     /// Fails where memory runs out, and then gives up the fields.
     pub fn optional(
@@ -61,10 +62,11 @@ impl Fields {
         name: &str,
         schema: RefOr<Schema>,
     ) -> Result<Fields, AllocError>
-        ensures names { IfOk result (λ fields. required_names fields ≡ required_names self) }
+        ensures names { IfOk result (λ fields. required_names fields ≡ without_name name.now (required_names self)) }
         ensures schemas { IfOk result (λ fields. field_schemas fields
             ≡ with_field name.now (place_doc schema) (field_schemas self)) }
     {
+        remove_name(&mut self.required, name);
         put_under(&mut self.properties, alloc, name, schema).and(Ok(self))
     }
 
@@ -109,12 +111,34 @@ fn text_values(alloc: Global, texts: &[&str]) -> Result<Vec<Value>, AllocError>
     Ok(values)
 }
 
-// Puts a name at the end of a list. Fails where memory runs out.
-fn push_name(list: &mut Vec<String>, alloc: Global, name: &str) -> Result<(), AllocError>
-    ensures { OnOk result (map string_bytes list.new.items ≡ map string_bytes list.old.items ++ name.now ∷ []) }
+// Whether a name is among some.
+fn is_among(name: &str, names: &[String]) -> bool
+    ensures { result ≡ is_one_of name.now (map string_bytes names.now) }
 {
+    for other in names {
+        if name == other.as_str() {
+            return true;
+        }
+    }
+    false
+}
+
+// Puts a name at the end of a list, unless it is there already. Fails where memory runs out.
+fn add_name(names: &mut Vec<String>, alloc: Global, name: &str) -> Result<(), AllocError>
+    ensures { OnOk result (map string_bytes names.new.items ≡ with_name name.now (map string_bytes names.old.items)) }
+{
+    if is_among(name, names) {
+        return Ok(());
+    }
     let name = String::from_str(alloc, name)?;
-    Ok(list.push(name)?)
+    Ok(names.push(name)?)
+}
+
+// Takes a name out of a list.
+fn remove_name(names: &mut Vec<String>, name: &str)
+    ensures { map string_bytes names.new.items ≡ without_name name.now (map string_bytes names.old.items) }
+{
+    names.retain(|other| name != other.as_str());
 }
 
 // Puts a value under a name, in place of an earlier one of that name. Fails where memory runs out, and then gives the value up.

@@ -3,10 +3,12 @@ ghost use Rattle.std.specs.Prelude.{◌≡◌, ◌≤◌, Some, false, IfOk, IfE
 ghost use Rattle.serde_json.specs.Data.{depth};
 ghost use Rattle.serde_json.specs.Read.{read as read_text, max_depth};
 ghost use Rattle.serde_json.specs.Written.{has_float, compact_text};
+ghost use Rattle.utoipa_base.specs.Kinds.{named, open_api_object};
+ghost use Rattle.utoipa_base.specs.Texts.{RefusesText};
 ghost use Rattle.utoipa_base.specs.Writing.{write};
 ghost use Rattle.utoipa_merging.specs.Texts.{IsTextOf};
 ghost use Rattle.utoipa.specs.OpenApi.{openapi_doc};
-ghost use Rattle.utoipa.specs.Texts.{pretty_text, RefusesText};
+ghost use Rattle.utoipa.specs.Texts.{pretty_text};
 
 use crate::document::OpenApi;
 use crate::json_text::{from_json, to_json, to_pretty_json};
@@ -22,7 +24,7 @@ impl OpenApi {
     /// runs out.
     pub fn from_json(alloc: Global, text: &str) -> Result<OpenApi, ReadFault>
         ensures ok { IfOk result (λ document. IsTextOf (openapi_doc document) text.now) }
-        ensures err { IfErr result (RefusesText text.now) }
+        ensures err { IfErr result (RefusesText (named open_api_object) text.now) }
     {
         from_json::<OpenApi>(alloc, text)
     }

@@ -5,6 +5,7 @@ pub mod Choices
 pub mod Docs
 pub mod ByName
 pub mod Tables
+pub mod EachMember
 pub mod Members
 pub mod Extensions
 pub mod Reading

@@ -3,7 +3,7 @@
 use crate::told::told;
 use serde_json::Value;
 use std::alloc::{AllocError, Global};
-use utoipa_conflicts::{tree_conflicts, tree_nested_conflicts};
+use utoipa_conflicts::{tree_conflicts, tree_nested_conflicts, tree_nested_paths};
 
 /// What is dropped where the documents of a list are merged.
 pub(crate) fn conflicts_of_text(alloc: Global, text: &str) -> Result<String, AllocError> {
@@ -21,6 +21,9 @@ pub(crate) fn nested_conflicts_of_text(alloc: Global, text: &str) -> Result<Stri
     match (call.get(0), call.get(1), call.get(2)) {
         (Some(own), Some(nested), Some(Value::Array(answers))) => {
             let answers = texts(alloc, answers)?;
+            if answers.len() != tree_nested_paths(alloc, nested)?.len() {
+                return String::from_str(alloc, "not one answer to each path");
+            }
             told(alloc, &tree_nested_conflicts(alloc, own, nested, &answers)?)
         }
         _ => String::from_str(alloc, "no list of two documents and answers"),

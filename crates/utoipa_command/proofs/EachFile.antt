@@ -1,7 +1,6 @@
 -- Files, one after the other.
 use Rattle.std.proofs.Common.{◌≡◌, ◌≢◌, ◌∷◌, ◌++◌, ◌<◌, ◌⊎◌, ◌+◌, ℕ, zero, suc, List, [], Bool, true, length, map, take, get_or, inl, inr, Result, Ok, Err, IfErr, string_bytes, refl, sym, ap, ◌∙◌, subst, arith}
 use Rattle.std.proofs.lemmas.List.{map-append, take_more}
-use Rattle.std.specs.Result.{IsErrAnd}
 use Rattle.utoipa_base.specs.Docs.{Doc}
 use Rattle.utoipa_findings.specs.Sources.{IsSourceOf}
 use Rattle.utoipa_findings.specs.Told.{Tells, IsRefused}
@@ -54,11 +53,6 @@ dropping ss ds told reads is some = record {
 pub memory_told : {T : Type 0} (P : List ℕ → Type 0) (r : Result T Refusal) → IfErr r (λ w. w ≡ Memory) → IfErr r (Tells P)
 memory_told P (Ok v) is = tt
 memory_told P (Err w) is = subst (Tells P) (sym is) tt
-
--- a refusal that `?` passes on
-pub passed_on : {T E : Type 0} (P : E → Type 0) (r : Result T E) (w : E) → IsErrAnd r (λ v. v ≡ w) → P w → IfErr r P
-passed_on P (Ok v) w is h = tt
-passed_on P (Err v) w is h = subst P (sym is) h
 
 pub one_refused_told : (ss : List Source) (i : ℕ) (d : Source) (w : Refusal) → i < length ss → Tells (IsRefused document_kind (get_or ss i d).name.now (get_or ss i d).bytes.now) w
     → Tells (IsOneRefused (map file_of ss)) w

@@ -3,7 +3,8 @@ use Rattle.std.proofs.Common.{◌≡◌, ◌≢◌, ℕ, List, length, false, if
 use Rattle.serde_json.specs.Data.{Data}
 use Rattle.serde_json.specs.Written.{has_float}
 use Rattle.utoipa_base.specs.Docs.{Doc}
-use Rattle.utoipa_command.specs.Answers.{tree_of, input_of, AnswersInput, IsTreeOf, IsEmptyInput, IsMiscounted, HasAnswer, HasTree, HasNoDocument, HasNoTree, HasFraction, IsCause}
+use Rattle.utoipa_findings.specs.Sources.{tree_of}
+use Rattle.utoipa_command.specs.Answers.{input_of, AnswersInput, IsTreeOf, IsEmptyInput, IsMiscounted, HasAnswer, HasTree, HasNoDocument, HasNoTree, HasFraction, IsCause}
 use Rattle.utoipa_command.specs.Commands.{Request, server, schema, document, merge, nest}
 use Rattle.utoipa_command.specs.Runs.{IsExact, IsFault, IsNoDocument}
 use Rattle.utoipa_command.specs.declared.command.Outcome.TheVariants.{Done, Refused}

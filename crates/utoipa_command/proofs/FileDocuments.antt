@@ -1,33 +1,22 @@
 -- Documents that were read from files: they are plain and in key order, and so is what is made of them.
-use Rattle.std.proofs.Common.{◌≡◌, ◌∷◌, ℕ, List, [], Bool, true, false, if◌then◌else◌, Some, None, Result, Ok, Err, IfOk, IfErr, map, subst}
+use Rattle.std.proofs.Common.{◌≡◌, ◌∷◌, ℕ, List, [], false, Result, Ok, Err, IfOk, IfErr, map, subst}
 use Rattle.std.specs.List.{AllByRecursion}
-use Rattle.std.specs.Str.{is_utf8}
 use Rattle.std.proofs.lemmas.List.Elements.{All-from_recursion}
-use Rattle.serde_json.specs.Data.{Data}
-use Rattle.serde_json.specs.Read.{read as read_text}
 use Rattle.serde_json.specs.Written.{has_float}
 use Rattle.utoipa_base.specs.Docs.{Doc}
 use Rattle.utoipa_base.specs.WellFormed.{IsPlain}
 use Rattle.utoipa_base.specs.Writing.{write}
 use Rattle.utoipa_base.proofs.Plain.{read_plain, write_plain}
-use Rattle.utoipa_findings.specs.Sources.{tree_of, IsSourceOf}
+use Rattle.utoipa_findings.specs.Sources.{IsSourceOf}
 use Rattle.utoipa_merging.specs.Merged.{IsInKeyOrder, IsMerged, IsOpenApi}
 use Rattle.utoipa_merging.specs.Nested.{IsNested}
-use Rattle.utoipa_merging.specs.Sorted.{IsSorted}
 use Rattle.utoipa_merging.proofs.PlainMerged.{merged_plain, nested_plain}
 use Rattle.utoipa_merging.proofs.ReadInOrder.{read_in_order}
-use Rattle.utoipa_merging.proofs.SortedTexts.{text_sorted}
 use Rattle.utoipa_command.specs.Answers.{behind}
 use Rattle.utoipa_command.specs.Files.{File, document_kind, dropped_lines, AreSourcesOf, IsFormatted, IsMerge, IsNest}
 use Rattle.utoipa_command.specs.Layouts.{laid_out}
 use Rattle.utoipa_command.specs.declared.files.layout.Layout.{Layout}
-
-sorted_if : (b : Bool) (bytes : List ℕ) (t : Data) → (if b then read_text bytes else None) ≡ Some t → IsSorted t
-sorted_if true bytes t e = text_sorted bytes t e
-sorted_if false bytes t e = cc
-
-is_sorted : (bytes : List ℕ) (t : Data) → tree_of bytes ≡ Some t → IsSorted t
-is_sorted bytes t e = sorted_if (is_utf8 bytes) bytes t e
+use Rattle.utoipa_command.proofs.Trees.{is_sorted}
 
 source_in_order : (d : Doc) (bytes : List ℕ) → IsSourceOf document_kind d bytes → IsInKeyOrder d
 source_in_order d bytes s = read_in_order s.tree d (is_sorted bytes s.tree s.has) s.reads.1
@@ -47,10 +36,6 @@ ok_is P r v h e = subst (λ s. IfOk s P) e h
 
 pub err_is : {T E : Type 0} (P : E → Type 0) (r : Result T E) (w : E) → IfErr r P → r ≡ Err w → P w
 err_is P r w h e = subst (λ s. IfErr s P) e h
-
-pub if_ok : {T E : Type 0} (P Q : T → Type 0) (r : Result T E) → IfOk r P → ((v : T) → P v → Q v) → IfOk r Q
-if_ok P Q (Ok v) h g = g v h
-if_ok P Q (Err e) h g = tt
 
 -- ---- answers
 

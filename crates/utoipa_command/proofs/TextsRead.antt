@@ -9,7 +9,9 @@ use Rattle.utoipa_base.specs.Kinds as kinds
 use Rattle.utoipa_base.specs.Texts as base
 use Rattle.utoipa_base.specs.declared.fault.ReadFault.{ReadFault}
 use Rattle.utoipa_base.specs.declared.fault.ReadFault.TheVariants as fault
-use Rattle.utoipa_command.specs.Answers.{tree_of, input_kind, AnswersInput, IsAnswer, IsCause, IsCauseInTree, IsCauseOfText, IsReadAs, IsTextRewritten}
+use Rattle.utoipa_findings.specs.Sources.{tree_of, IsSourceOf}
+use Rattle.utoipa_findings.proofs.Fitting.{passed_on}
+use Rattle.utoipa_command.specs.Answers.{input_kind, AnswersInput, IsAnswer, IsCause, IsCauseInTree, IsCauseOfText, IsTextRewritten}
 use Rattle.utoipa_command.specs.Commands.{Request}
 use Rattle.utoipa_command.specs.Messages.{refusal_of}
 use Rattle.utoipa_command.specs.declared.refusal.Refusal.{Refusal}
@@ -17,8 +19,8 @@ use Rattle.utoipa_command.specs.declared.refusal.Refusal.TheVariants.{Memory, Re
 use Rattle.utoipa_command.proofs.Trees.{cause_in_tree, has_tree, has_no_tree}
 
 -- what a text is read as, its bytes are read as
-pub read_as : (k : kinds.Kind) (bytes text : List ℕ) (d : Doc) → text ≡ bytes → IsUtf8 bytes → base.IsTextOf k d text → IsReadAs k bytes d
-read_as k bytes text d same utf8 h = record { tree = h.tree; has = has_tree bytes h.tree utf8 (ap read_text (sym same) ∙ h.has); plain = h.plain; reads = h.reads }
+pub read_as : (k : kinds.Kind) (bytes text : List ℕ) (d : Doc) → text ≡ bytes → IsUtf8 bytes → base.IsTextOf k d text → IsSourceOf k d bytes
+read_as k bytes text d same utf8 h = record { tree = h.tree; has = has_tree bytes h.tree utf8 (ap read_text (sym same) ∙ h.has); reads = (h.plain, h.reads) }
 
 -- why a text is refused, its bytes are refused
 refused_as : (k : kinds.Kind) (bytes text : List ℕ) (e : ReadFault) → text ≡ bytes → IsUtf8 bytes → base.RefusesText k text e → IsCauseOfText k bytes (refusal_of e)
@@ -30,9 +32,9 @@ refused_as k bytes text (fault.Word s) same utf8 h = (h.tree, has_tree bytes h.t
 refused_as k bytes text fault.Alternative same utf8 h = (h.tree, has_tree bytes h.tree utf8 (ap read_text (sym same) ∙ h.has), h.plain, h.none)
 refused_as k bytes text fault.Text same utf8 h = has_no_tree bytes (λ _. ap read_text (sym same) ∙ h)
 
-pub passed_on : {T : Type 0} (k : kinds.Kind) (bytes text : List ℕ) (r : Result T Refusal) (e : ReadFault) → IsErrAnd r (λ w. w ≡ refusal_of e) → text ≡ bytes → IsUtf8 bytes → base.RefusesText k text e → IfErr r (IsCauseOfText k bytes)
-passed_on k bytes text (Ok v) e is same utf8 h = tt
-passed_on k bytes text (Err w) e is same utf8 h = subst (IsCauseOfText k bytes) (sym is) (refused_as k bytes text e same utf8 h)
+-- a refusal of a text that `?` passes on
+pub text_passed_on : {T : Type 0} (k : kinds.Kind) (bytes text : List ℕ) (r : Result T Refusal) (e : ReadFault) → IsErrAnd r (λ w. w ≡ refusal_of e) → text ≡ bytes → IsUtf8 bytes → base.RefusesText k text e → IfErr r (IsCauseOfText k bytes)
+text_passed_on k bytes text r e is same utf8 h = passed_on (IsCauseOfText k bytes) r (refusal_of e) is (refused_as k bytes text e same utf8 h)
 
 -- bytes that are no UTF-8 have no tree
 pub no_utf8 : (bytes : List ℕ) → (IsUtf8 bytes → ⊥) → tree_of bytes ≡ None
@@ -57,10 +59,9 @@ pub input_refused : {T : Type 0} (asked r : Request) (bytes : List ℕ) (result 
 input_refused asked r bytes (Ok v) is h = tt
 input_refused asked r bytes (Err w) is h = subst (λ s. IsCause s bytes w) (sym is) (cause_of_input r bytes w h)
 
--- a refusal that `?` passes on
+-- a refusal of an input that `?` passes on
 pub input_passed_on : {T : Type 0} (r : Request) (bytes : List ℕ) (result : Result T Refusal) (w : Refusal) → IsErrAnd result (λ v. v ≡ w) → IsCauseOfText (input_kind r) bytes w → IfErr result (IsCause r bytes)
-input_passed_on r bytes (Ok v) w is h = tt
-input_passed_on r bytes (Err v) w is h = subst (IsCause r bytes) (sym is) (cause_of_input r bytes w h)
+input_passed_on r bytes result w is h = passed_on (IsCause r bytes) result w is (cause_of_input r bytes w h)
 
 -- a cause in the tree of the bytes is one in the bytes
 pub tree_refused : {T : Type 0} (r : Request) (bytes : List ℕ) (t : Data) (result : Result T Refusal) → tree_of bytes ≡ Some t → IfErr result (IsCauseInTree r t) → IfErr result (IsCause r bytes)

@@ -6,7 +6,8 @@ use Rattle.serde_json.specs.Data.{Data}
 use Rattle.serde_json.specs.Read.{read as read_text}
 use Rattle.utoipa_merging.specs.Sorted.{IsSorted}
 use Rattle.utoipa_merging.proofs.SortedTexts.{text_sorted}
-use Rattle.utoipa_command.specs.Answers.{tree_of, IsCause, IsCauseInTree}
+use Rattle.utoipa_findings.specs.Sources.{tree_of}
+use Rattle.utoipa_command.specs.Answers.{IsCause, IsCauseInTree}
 use Rattle.utoipa_command.specs.Commands.{Request}
 use Rattle.utoipa_command.specs.declared.refusal.Refusal.{Refusal}
 use Rattle.utoipa_command.specs.declared.refusal.Refusal.TheVariants.{Memory, Read, Write, Text, Fraction, Missing, Kind, Word, Alternative, Empty, Count}

@@ -1,24 +1,19 @@
 -- What a request has as its answer to the bytes of an input, and why it refuses them.
-use Rattle.std.specs.Prelude.{◌≡◌, ◌≢◌, ℕ, List, [], ◌∷◌, ◌++◌, true, false, if◌then◌else◌, Option, None, Some, map, length}
+use Rattle.std.specs.Prelude.{◌≡◌, ◌≢◌, ℕ, List, [], ◌∷◌, ◌++◌, true, false, Option, None, Some, map, length}
 use Rattle.std.specs.Map.{keys_of}
-use Rattle.std.specs.Str.{is_utf8}
 use Rattle.serde_json.specs.Data.{Data}
-use Rattle.serde_json.specs.Read.{read as read_text}
 use Rattle.serde_json.specs.Written.{has_float, compact_text}
 use Rattle.utoipa_base.specs.Docs.{Doc}
 use Rattle.utoipa_base.specs.Kinds.{Kind, list_of, named, ref_or, schema as schema_kind, server_object, open_api_object}
 use Rattle.utoipa_base.specs.Reading.{read}
 use Rattle.utoipa_base.specs.Writing.{write}
+use Rattle.utoipa_findings.specs.Sources.{tree_of}
 use Rattle.utoipa_merging.specs.Merged.{IsMerged, IsInKeyOrder}
 use Rattle.utoipa_merging.specs.Nested.{IsNested}
 use Rattle.utoipa_merging.specs.Slots.{entries_in, items_in, paths_of}
 use Rattle.utoipa_command.specs.Commands.{Request, server, schema, document, merge, nest}
 use Rattle.utoipa_command.specs.declared.refusal.Refusal.{Refusal}
 use Rattle.utoipa_command.specs.declared.refusal.Refusal.TheVariants.{Memory, Read, Write, Text, Fraction, Missing, Kind as NoKind, Word, Alternative, Empty, Count}
-
--- the tree of the bytes, if they are UTF-8 and JSON
-abbrev pub tree_of : List ℕ → Option Data
-tree_of bytes = if is_utf8 bytes then read_text bytes else None
 
 -- the kind of the document that a request reads
 abbrev pub input_kind : Request → Kind
@@ -145,20 +140,6 @@ IsCause r bytes Count = HasOtherCount r bytes
 
 -- ---- for private clauses: a tree that is read as a document of a kind
 
--- why a tree is refused so that is to be a document of the kind
-abbrev pub IsCauseOfKind : Kind → Data → Refusal → Type 0
-IsCauseOfKind k t Memory = Unit {0}
-IsCauseOfKind k t Read = ⊥
-IsCauseOfKind k t Write = ⊥
-IsCauseOfKind k t Text = ⊥
-IsCauseOfKind k t Fraction = has_float t ≡ true
-IsCauseOfKind k t Missing = (has_float t ≡ false) × (read k t ≡ None)
-IsCauseOfKind k t NoKind = (has_float t ≡ false) × (read k t ≡ None)
-IsCauseOfKind k t Word = (has_float t ≡ false) × (read k t ≡ None)
-IsCauseOfKind k t Alternative = (has_float t ≡ false) × (read k t ≡ None)
-IsCauseOfKind k t Empty = ⊥
-IsCauseOfKind k t Count = ⊥
-
 -- the line is that of the document of the kind that the tree is, which is plain
 pub record IsRewritten (k : Kind) (t : Data) (line : List ℕ) : Type 0 where
   pub plain : has_float t ≡ false
@@ -166,14 +147,7 @@ pub record IsRewritten (k : Kind) (t : Data) (line : List ℕ) : Type 0 where
   pub reads : read k t ≡ Some document
   pub text : line ≡ line_of (write document)
 
--- ---- a text that is read as a document of a kind
-
--- the bytes have a plain tree, which is read as this document of the kind
-pub record IsReadAs (k : Kind) (bytes : List ℕ) (d : Doc) : Type 0 where
-  pub tree : Data
-  pub has : tree_of bytes ≡ Some tree
-  pub plain : has_float tree ≡ false
-  pub reads : read k tree ≡ Some d
+-- ---- a text that is to be a document of a kind
 
 -- the bytes have a plain tree that is no document of the kind
 abbrev pub IsOtherText : Kind → List ℕ → Type 0

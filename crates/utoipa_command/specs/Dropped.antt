@@ -5,7 +5,7 @@ use Rattle.utoipa_base.specs.Docs.{Doc, docs_of, list_doc}
 use Rattle.utoipa_base.specs.Kinds.{Kind, list_of}
 use Rattle.utoipa_conflicts.specs.Merged.{Told, told}
 use Rattle.utoipa_conflicts.specs.Texts.{told_text}
-use Rattle.utoipa_command.specs.Answers.{IsReadAs}
+use Rattle.utoipa_findings.specs.Sources.{IsSourceOf}
 use Rattle.utoipa_command.specs.Files.{document_kind}
 
 -- the kind of a list of documents
@@ -23,5 +23,5 @@ told_lines cs = flat_map told_line cs
 -- the lines are of what merging drops of the documents of the list that the text is
 pub record AreConflicts (text lines : List ℕ) : Type 0 where
   pub documents : List Doc
-  pub reads : IsReadAs documents_kind text (list_doc (docs_of documents))
+  pub reads : IsSourceOf documents_kind (list_doc (docs_of documents)) text
   pub told : lines ≡ told_lines (told documents)

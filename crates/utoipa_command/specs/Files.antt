@@ -13,7 +13,7 @@ use Rattle.utoipa_findings.specs.declared.source.Source.{Source}
 use Rattle.utoipa_merging.specs.Merged.{IsMerged, IsInKeyOrder}
 use Rattle.utoipa_merging.specs.Nested.{IsNested}
 use Rattle.utoipa_outline.specs.Lines.{operation_lines}
-use Rattle.utoipa_outline.specs.Stats.{IsStats}
+use Rattle.utoipa_outline.specs.Stats.{stats_lines}
 use Rattle.utoipa_command.specs.Answers.{behind}
 use Rattle.utoipa_command.specs.Layouts.{laid_out}
 use Rattle.utoipa_command.specs.declared.files.layout.Layout.{Layout}
@@ -89,4 +89,4 @@ pub record AreOperations (bytes lines : List ℕ) : Type 0 where
 pub record AreStats (bytes lines : List ℕ) : Type 0 where
   pub tree : Data
   pub has : IsTreeOf document_kind tree bytes
-  pub told : IsStats document_kind tree (length bytes) lines
+  pub told : lines ≡ stats_lines document_kind tree (length bytes)

@@ -2,8 +2,9 @@
 ghost use Rattle.std.specs.Prelude.{◌≡◌, false, IfOk, IfErr};
 ghost use Rattle.serde_json.specs.Written.{has_float};
 ghost use Rattle.utoipa_base.specs.Writing.{write};
-ghost use Rattle.utoipa_command.specs.Answers.{line_of, IsAnswer, IsCause, IsCauseOfText, IsReadAs, IsTextRewritten};
+ghost use Rattle.utoipa_command.specs.Answers.{line_of, IsAnswer, IsCause, IsCauseOfText, IsTextRewritten};
 ghost use Rattle.utoipa_command.specs.Commands.{merge, nest, request_of};
+ghost use Rattle.utoipa_findings.specs.Sources.{IsSourceOf};
 
 use crate::command::Command;
 use crate::refusal::Refusal;
@@ -63,7 +64,7 @@ fn nested(alloc: Global, base: &str, text: &[u8]) -> Result<Vec<u8>, Refusal>
 /// The document of a type that a text is. Fails where the text is no JSON, where a number of it is a fraction, where it is no document of the
 /// type, and where memory runs out.
 pub fn document_of<T: Tree>(alloc: Global, text: &[u8]) -> Result<T, Refusal>
-    ensures ok { IfOk result (λ document. IsReadAs T.kind text.now (T.doc document)) }
+    ensures ok { IfOk result (λ document. IsSourceOf T.kind (T.doc document) text.now) }
     ensures err { IfErr result (IsCauseOfText T.kind text.now) }
 {
     match from_utf8(text) {

@@ -9,11 +9,12 @@ use Rattle.std.specs.Ordering.{match_ordering, is_eq}
 use Rattle.std.specs.Str.{bytes_eq}
 use Rattle.serde_json.specs.Data.{Data, null, boolean, number, string, array, object, Members, no_members, member}
 use Rattle.serde_json.specs.Find.{get, get_member}
+use Rattle.utoipa_base.specs.EachMember.{each_member}
 use Rattle.utoipa_check.specs.Misfits.{at_name}
 use Rattle.utoipa_check.specs.Places.{members_at}
 use Rattle.utoipa_conflicts.specs.Conflicts.{Holder, document, component, path_entry, item_member, additional_operation, has}
 use Rattle.utoipa_conflicts.specs.Holders.{component_holders, additional_holders, item_holders, path_holders, holders_at, holders, same_holder, is_among, AreApart, EachMember, IsApart, AreComponentsApart, IsMemberApart, IsItemApart, ArePathsApart}
-use Rattle.utoipa_conflicts.specs.Trees.{Place, at_place, each_member}
+use Rattle.utoipa_conflicts.specs.Trees.{Place, at_place}
 
 -- ---- members by their names
 

@@ -10,6 +10,7 @@ use Rattle.std.specs.Str.{bytes_eq}
 use Rattle.serde_json.specs.Data.{Data, null, boolean, number, string, array, object, Members, no_members, member}
 use Rattle.serde_json.specs.Find.{get, get_member}
 use Rattle.utoipa_base.specs.Extensions.{is_extension}
+use Rattle.utoipa_base.specs.EachMember.{each_member}
 use Rattle.utoipa_check.specs.Misfits.{at_name}
 use Rattle.utoipa_check.specs.Places.{members_at}
 use Rattle.utoipa_conflicts.specs.Conflicts.{is_joined, is_method, Slot, document_member, component_entry, components_extension, paths_extension, operation, named_operation, base_member, holder, place, place_of_holder, Rule, first_decides, last_decides, rule, Filled, one_slot, entry_slots, item_slots, path_slots, component_slots, member_slots, slots, Numbered, numbered, by_rule, deciding, conflicts}
@@ -17,7 +18,7 @@ use Rattle.utoipa_conflicts.specs.Holders.{AreApart, EachMember, IsApart, AreCom
 use Rattle.utoipa_conflicts.specs.IsConflict.{IsOneOf, HasValue, AllKept}
 use Rattle.utoipa_conflicts.specs.Kept.{from_holder, IsAllKept}
 use Rattle.utoipa_conflicts.specs.Same.{is_value}
-use Rattle.utoipa_conflicts.specs.Trees.{Place, at_place, each_member}
+use Rattle.utoipa_conflicts.specs.Trees.{Place, at_place}
 use Rattle.utoipa_conflicts.proofs.Found.{get_first}
 use Rattle.utoipa_conflicts.proofs.Kept.{slot_behind, agree}
 use Rattle.utoipa_conflicts.proofs.Listed.{in_either, nothing_where_kept}

@@ -15,6 +15,8 @@ use Rattle.utoipa_base.specs.Shape.{IsOf, value_of}
 use Rattle.utoipa_base.specs.WellFormed.{names_no_extension}
 use Rattle.utoipa_base.specs.Writing.{write, write_entries, merge_member, merge_members}
 use Rattle.utoipa_base.proofs.BoolFacts.{and_first, and_second, not_true}
+use Rattle.utoipa_base.specs.EachMember.{each_member}
+use Rattle.utoipa_check.specs.Places.{members_at}
 use Rattle.utoipa_merging.specs.Merged.{IsInOrder, IsInKeyOrder}
 use Rattle.utoipa_merging.specs.Nested as nesting
 use Rattle.utoipa_merging.specs.Nested.{mounted_at}
@@ -24,11 +26,10 @@ use Rattle.utoipa_merging.proofs.Determined.{found_is_of, same_items}
 use Rattle.utoipa_merging.proofs.InOrder.{all_found}
 use Rattle.utoipa_merging.proofs.Nesting.{nested_items}
 use Rattle.utoipa_merging.proofs.UnambiguousMerged.{nested_unambiguous}
-use Rattle.utoipa_check.specs.Places.{members_at}
 use Rattle.utoipa_conflicts.specs.Conflicts.{place_of_item}
 use Rattle.utoipa_conflicts.specs.Nested.{ItemAt, item_unless_extension, items_in, path_items, answered, put_at}
 use Rattle.utoipa_conflicts.specs.NestedInto.{IsNoExtension, AreNestedInto}
-use Rattle.utoipa_conflicts.specs.Trees.{at_place, each_member}
+use Rattle.utoipa_conflicts.specs.Trees.{at_place}
 use Rattle.utoipa_conflicts.proofs.Written.{IsTable, clear_table}
 use Rattle.utoipa_conflicts.proofs.WrittenSlots.{paths_shape, under_paths, path_written}
 

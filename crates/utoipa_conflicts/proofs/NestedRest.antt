@@ -12,6 +12,7 @@ use Rattle.utoipa_base.specs.Extensions.{is_extension, members_or_none}
 use Rattle.utoipa_base.specs.Kinds.{open_api_object}
 use Rattle.utoipa_base.specs.Writing.{write}
 use Rattle.utoipa_base.proofs.BoolFacts.{not_true}
+use Rattle.utoipa_base.specs.EachMember.{each_member}
 use Rattle.utoipa_merging.specs.Nested.{with_paths}
 use Rattle.utoipa_merging.specs.Slots.{field_at, extensions_in, entry_at, parts, fixed_members, paths_of, components_of}
 use Rattle.utoipa_merging.proofs.Nesting.{nested_extension_values}
@@ -24,7 +25,7 @@ use Rattle.utoipa_conflicts.specs.Merged.{is_slot}
 use Rattle.utoipa_conflicts.specs.Nested.{ItemAt, item_unless_extension, items_in, path_items, answered, item_if, put_at, unless_same, covered, own_decides, rest_dropped, nested_conflicts}
 use Rattle.utoipa_conflicts.specs.NestedInto.{IsNoExtension, AreNestedInto, is_of_item, IsItemLost, IsRestLost, IsLostByNesting}
 use Rattle.utoipa_conflicts.specs.Same.{is_same, is_value}
-use Rattle.utoipa_conflicts.specs.Trees.{Place, at_place, each_member}
+use Rattle.utoipa_conflicts.specs.Trees.{Place, at_place}
 use Rattle.utoipa_conflicts.proofs.Listed.{in_first, in_second, in_either, in_each, from_each, is_dropped, decided}
 use Rattle.utoipa_conflicts.proofs.NamedOnce.{given_in, behind, slot_stands}
 use Rattle.utoipa_conflicts.proofs.NestedPaths.{own_table, other_table, nested_table, item_at_path}

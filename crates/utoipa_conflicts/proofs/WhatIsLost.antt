@@ -6,6 +6,7 @@ use Rattle.std.specs.Str.{bytes_eq}
 use Rattle.serde_json.specs.Data.{Data, Members, no_members, member}
 use Rattle.utoipa_base.specs.Docs.{Doc}
 use Rattle.utoipa_base.specs.Extensions.{is_extension}
+use Rattle.utoipa_base.specs.EachMember.{each_member}
 use Rattle.utoipa_check.specs.Places.{members_at}
 use Rattle.utoipa_conflicts.specs.Conflicts.{is_joined, is_method, Slot, document_member, component_entry, components_extension, paths_extension, operation, named_operation, base_member, holder, place, rule, Filled, one_slot, entry_slots, item_slots, path_slots, component_slots, member_slots, slots, Numbered, numbered, deciding, conflicts}
 use Rattle.utoipa_conflicts.specs.Holders.{IsNamedOnce}
@@ -13,7 +14,7 @@ use Rattle.utoipa_conflicts.specs.IsConflict.{IsOneOf, HasValue, IsConflict}
 use Rattle.utoipa_conflicts.specs.Kept.{kept}
 use Rattle.utoipa_conflicts.specs.Merged.{is_slot, written, AreMergedInto, has_value, IsAllThere, IsLost}
 use Rattle.utoipa_conflicts.specs.Same.{is_value}
-use Rattle.utoipa_conflicts.specs.Trees.{Place, at_place, each_member}
+use Rattle.utoipa_conflicts.specs.Trees.{Place, at_place}
 use Rattle.utoipa_conflicts.proofs.Listed.{in_either, listed_where_dropped}
 use Rattle.utoipa_conflicts.proofs.MergedSlots.{merged_has_kept}
 use Rattle.utoipa_conflicts.proofs.NamedOnce.{value_stands, decider, nothing_where_once}

@@ -5,11 +5,12 @@ use Rattle.std.specs.List.{list_any, flat_map}
 use Rattle.std.specs.Str.{bytes_eq}
 use Rattle.serde_json.specs.Data.{Data}
 use Rattle.utoipa_base.specs.Extensions.{is_extension}
+use Rattle.utoipa_base.specs.EachMember.{each_member}
 use Rattle.utoipa_check.specs.Misfits.{at_name}
 use Rattle.utoipa_check.specs.Places.{members_at}
 use Rattle.utoipa_merging.specs.Rules.{first_of, last_of}
 use Rattle.utoipa_conflicts.specs.Same.{is_value}
-use Rattle.utoipa_conflicts.specs.Trees.{Place, at_place, each_member}
+use Rattle.utoipa_conflicts.specs.Trees.{Place, at_place}
 
 -- ---- names
 

@@ -4,9 +4,9 @@ use Rattle.std.specs.List.{list_any}
 use Rattle.std.specs.Str.{bytes_eq}
 use Rattle.serde_json.specs.Data.{Data, Members, no_members, member}
 use Rattle.serde_json.specs.Find.{get, get_member}
+use Rattle.utoipa_base.specs.EachMember.{each_member}
 use Rattle.utoipa_check.specs.Places.{members_at}
 use Rattle.utoipa_conflicts.specs.Conflicts.{Holder, document, component, path_entry, item_member, additional_operation}
-use Rattle.utoipa_conflicts.specs.Trees.{each_member}
 
 -- ---- holders
 

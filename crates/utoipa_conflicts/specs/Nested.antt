@@ -8,13 +8,14 @@ use Rattle.serde_json.specs.Data.{Data}
 use Rattle.serde_json.specs.Find.{get}
 use Rattle.utoipa_base.specs.Docs.{Doc}
 use Rattle.utoipa_base.specs.Extensions.{is_extension}
+use Rattle.utoipa_base.specs.EachMember.{each_member}
 use Rattle.utoipa_base.specs.Writing.{write}
 use Rattle.utoipa_check.specs.Places.{members_at}
 use Rattle.utoipa_merging.specs.Rules.{last_of}
 use Rattle.utoipa_conflicts.specs.Conflicts.{Slot, document_member, component_entry, components_extension, paths_extension, operation, named_operation, base_member, component, has, place_of_item, slots, Conflict, dropped_by}
 use Rattle.utoipa_conflicts.specs.Merged.{Told, in_text}
 use Rattle.utoipa_conflicts.specs.Same.{is_same}
-use Rattle.utoipa_conflicts.specs.Trees.{Place, each_member}
+use Rattle.utoipa_conflicts.specs.Trees.{Place}
 
 -- ---- items
 
@@ -33,6 +34,10 @@ items_in (Some paths) = each_member item_unless_extension (members_at paths)
 -- those of a document
 abbrev pub path_items : Data → List ItemAt
 path_items d = items_in (get (codes "paths") d)
+
+-- their paths, to which a composer answers one after the other
+abbrev pub nested_paths : Data → List (List ℕ)
+nested_paths d = map (λ i. i.0) (path_items d)
 
 -- items, each at the composer's answer to its path
 abbrev pub answered : (answers : List (List ℕ)) → List ItemAt → List ItemAt

@@ -2,9 +2,9 @@
 ghost use Rattle.std.specs.Prelude.{◌≡◌, ◌++◌, ◌∷◌, [], codes, IfOk, IfSome, OnOk};
 ghost use Rattle.serde_json.specs.Find.{get};
 ghost use Rattle.serde_json.specs.View.{view, members_view};
+ghost use Rattle.utoipa_base.specs.EachMember.{each_member};
 ghost use Rattle.utoipa_conflicts.specs.Conflicts as specs;
 ghost use Rattle.utoipa_conflicts.specs.Holders as lists;
-ghost use Rattle.utoipa_conflicts.specs.Trees.{each_member};
 ghost use Rattle.utoipa_conflicts.specs.Views.{holder_of, all_holders};
 
 use serde_json::{Map, Value};

@@ -26,8 +26,9 @@ mod slot;
 mod told;
 
 pub use conflict::{Conflict, tree_conflicts};
-pub use nested::tree_nested_conflicts;
+pub use nested::{tree_nested_conflicts, tree_nested_paths};
 pub use same::is_same;
 pub use told::{
-    DocumentConflict, composed_conflicts, conflicts, nested_conflicts, trees_of_documents,
+    DocumentConflict, composed_conflicts, conflicts, nested_conflicts, nested_paths,
+    trees_of_documents,
 };

@@ -1,13 +1,13 @@
 //! What is dropped where a document is nested into another.
-ghost use Rattle.std.specs.Prelude.{◌≡◌, ◌++◌, ◌∷◌, [], ℕ, List, Some, IfOk, OnOk, if◌then◌else◌, codes, map, option_map, string_bytes};
+ghost use Rattle.std.specs.Prelude.{◌≡◌, ◌++◌, ◌∷◌, [], ℕ, List, Some, IfOk, OnOk, if◌then◌else◌, codes, length, map, option_map, string_bytes, vec_len};
 ghost use Rattle.std.specs.BTreeMap.{get_by_text};
 ghost use Rattle.std.specs.List.{flat_map};
 ghost use Rattle.serde_json.specs.Find.{get};
 ghost use Rattle.serde_json.specs.View.{view, members_view};
+ghost use Rattle.utoipa_base.specs.EachMember.{each_member};
 ghost use Rattle.utoipa_check.specs.Views.{outwards};
 ghost use Rattle.utoipa_conflicts.specs.Conflicts.{place_of_item, dropped_by};
 ghost use Rattle.utoipa_conflicts.specs.Nested as specs;
-ghost use Rattle.utoipa_conflicts.specs.Trees.{each_member};
 ghost use Rattle.utoipa_conflicts.specs.Views.{all_conflicts, all_filled, all_items, filled_of, item_of, slot_of};
 
 use crate::conflict::{Conflict, put_if_dropped, value_in};
@@ -81,6 +81,27 @@ pub(crate) fn path_items<'a>(alloc: Global, document: &'a Value) -> Result<Items
     let mut items = Vec::new(alloc);
     push_items_of(&mut items, document)?;
     Ok(items)
+}
+
+/// The paths of an OpenAPI document, given as the tree that it is written as. Where the document is nested, a composer of paths answers to each
+/// of them, in this order. Fails where memory runs out.
+pub fn tree_nested_paths<'a>(alloc: Global, nested: &'a Value) -> Result<Vec<&'a str>, AllocError>
+    ensures paths { IfOk result (λ v. map (λ p. p.now) v.items ≡ specs.nested_paths (view nested.now)) }
+    ensures count { IfOk result (λ v. vec_len v ≡ length (specs.nested_paths (view nested.now))) }
+{
+    let items = path_items(alloc, nested)?;
+    paths_of(alloc, &items)
+}
+
+/// The paths of some items. Fails where memory runs out.
+fn paths_of<'a>(alloc: Global, items: &Vec<ItemAt<'a>>) -> Result<Vec<&'a str>, AllocError>
+    ensures { IfOk result (λ v. map (λ p. p.now) v.items ≡ map (λ i. (item_of i).0) items.now.items) }
+{
+    let mut paths = Vec::new(alloc);
+    for item in items {
+        paths.push(item.path)?;
+    }
+    Ok(paths)
 }
 
 /// The items, each at the answer to its path. Fails where memory runs out.
@@ -224,7 +245,7 @@ fn put_rest<'a>(
 }
 
 /// What is dropped where an OpenAPI document, of number 1, is nested into another, of number 0, given as the trees that they are written as,
-/// and the answers of a composer of paths to the nested paths, in their order. These are the items in whose place a nested one stands, the
+/// and the answers of a composer of paths, one to each of the [`tree_nested_paths`]. These are the items in whose place a nested one stands, the
 /// nested items in whose place that of a later path stands which was answered alike, the extensions of the nested paths, and what merging drops
 /// of the rest; each value where another one is kept, or none, at its place in what comes of nesting. Fails where memory runs out.
 ///
@@ -235,6 +256,7 @@ pub fn tree_nested_conflicts<'a>(
     nested: &'a Value,
     answers: &'a [String],
 ) -> Result<Vec<Conflict<'a>>, AllocError>
+    requires { length answers.now ≡ length (specs.nested_paths (view nested.now)) }
     ensures { IfOk result
         (λ v. all_conflicts v.items
         ≡ specs.nested_conflicts (map string_bytes answers.now) (view own.now) (view nested.now)) }

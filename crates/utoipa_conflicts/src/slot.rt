@@ -1,10 +1,10 @@
 //! The slots of a document, each with what the document has there.
 ghost use Rattle.std.specs.Prelude.{◌≡◌, ◌++◌, IfOk, OnOk, [], option_map};
 ghost use Rattle.serde_json.specs.View.{view, members_view};
+ghost use Rattle.utoipa_base.specs.EachMember.{each_member};
 ghost use Rattle.utoipa_check.specs.Places.{members_at};
 ghost use Rattle.utoipa_conflicts.specs.Conflicts as specs;
 ghost use Rattle.utoipa_conflicts.specs.Holders.{AreApart};
-ghost use Rattle.utoipa_conflicts.specs.Trees.{each_member};
 ghost use Rattle.utoipa_conflicts.specs.Views.{slot_of, filled_of, all_filled};
 
 use serde_json::{Map, Value};

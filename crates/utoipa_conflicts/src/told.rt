@@ -1,12 +1,12 @@
 //! What is dropped where documents are merged, told of the documents and not of their trees.
-ghost use Rattle.std.specs.Prelude.{◌≡◌, ◌++◌, [], Some, All, IfOk, map, string_bytes};
+ghost use Rattle.std.specs.Prelude.{◌≡◌, ◌++◌, [], Some, All, IfOk, length, map, string_bytes, vec_len};
 ghost use Rattle.utoipa_base.specs.Docs.{Doc};
 ghost use Rattle.utoipa_base.specs.Kinds.{named, open_api_object};
 ghost use Rattle.utoipa_base.specs.WellFormed.{IsUnambiguous};
 ghost use Rattle.utoipa_base.specs.Writing.{write};
 ghost use Rattle.utoipa_conflicts.specs.Deciders.{trees_of};
 ghost use Rattle.utoipa_conflicts.specs.Merged as specs;
-ghost use Rattle.utoipa_conflicts.specs.Nested.{behind, told_nested};
+ghost use Rattle.utoipa_conflicts.specs.Nested.{behind, nested_paths as nested_paths_of, told_nested};
 ghost use Rattle.utoipa_conflicts.specs.Texts.{told_text};
 ghost use Rattle.utoipa_conflicts.specs.Views.{conflict_of, item_of, told_of, all_told};
 ghost use Rattle.utoipa_merging.specs.Merged.{IsInKeyOrder, IsMerged};
@@ -120,8 +120,18 @@ fn all_joined(alloc: Global, base: &str, items: &Vec<ItemAt<'_>>) -> Result<Vec<
     Ok(paths)
 }
 
-/// What is dropped where a document, 1, is nested into another, 0, and a composer of paths answers so to the nested paths, in their order: the
-/// items in whose place a nested one stands, the extensions of the nested paths, and what merging drops of the rest, as
+/// The paths of a document. Where the document is nested, a composer of paths answers to each of them, in this order. Fails where memory runs out.
+pub fn nested_paths<T: Tree>(alloc: Global, nested: &T) -> Result<Vec<String>, AllocError>
+    ensures paths { IfOk result (λ v. map string_bytes v.items ≡ nested_paths_of (write (T.doc nested.now))) }
+    ensures count { IfOk result (λ v. vec_len v ≡ length (nested_paths_of (write (T.doc nested.now)))) }
+{
+    let tree = nested.to_value(alloc)?;
+    let items = path_items(alloc, &tree)?;
+    all_joined(alloc, "", &items)
+}
+
+/// What is dropped where a document, 1, is nested into another, 0, and a composer of paths gives these answers, one to each of the
+/// [`nested_paths`]: the items in whose place a nested one stands, the extensions of the nested paths, and what merging drops of the rest, as
 /// [`tree_nested_conflicts`] lists it of the trees that they are written as. Of two paths that are answered alike the item of the earlier is
 /// dropped too, and told as of document 1 on both sides. Fails where memory runs out.
 pub fn composed_conflicts<T: Tree>(
@@ -130,6 +140,7 @@ pub fn composed_conflicts<T: Tree>(
     nested: &T,
     answers: &[String],
 ) -> Result<Vec<DocumentConflict>, AllocError>
+    requires { length answers.now ≡ length (nested_paths_of (write (T.doc nested.now))) }
     ensures { IfOk result
         (λ v. all_told v.items ≡ told_nested (map string_bytes answers.now) (T.doc own.now) (T.doc nested.now)) }
 {

@@ -28,7 +28,7 @@
 //! | `responses-from TYPE` | a JSON text | what the responses are written as, once those of the type were put |
 //! | `component-from TYPE` | a JSON text | what the components are written as, once the schema or the response of the type was put |
 //! | `schemas-from TYPE` | a JSON text | what the components are written as, once the schema of the type was put, and those that it refers to |
-//! | `own-schema` | `fields`, `no fields`, `texts` or `reference` | what the schema is written as that is made of such |
+//! | `own-schema` | `fields`, `fields of one name`, `no fields`, `texts` or `reference` | what the schema is written as that is made of such |
 //! | `operations` | a JSON text, a document | the operations of its paths: of each the method, the path and the id, with `; ` behind it; `none` where there is none |
 //! | `operation-by-id ID` | a JSON text, a document | the operation of its paths that has the id, in the same way, or `none` |
 //! | `callbacks` | a number | `true`, where an operation in so many callbacks, one in the other, is kept |

@@ -94,6 +94,7 @@ fn with_schemas<T: ToSchema>(alloc: Global, components: Components) -> Result<St
 pub fn own_schema(alloc: Global, way: &str) -> Result<String, AllocError> {
     match way {
         "fields" => printed(alloc, &fields(alloc)?.schema(alloc)),
+        "fields of one name" => printed(alloc, &fields_of_one_name(alloc)?.schema(alloc)),
         "no fields" => printed(alloc, &Fields::new(alloc).schema(alloc)),
         "reference" => printed(alloc, &schema_ref(alloc, "Kind")?),
         "texts" => printed(alloc, &text_among(alloc, &["dog", "cat"])?),
@@ -107,4 +108,12 @@ fn fields(alloc: Global) -> Result<Fields, AllocError> {
     let fields = fields.required(alloc, "name", schema_ref(alloc, "Name")?)?;
     let fields = fields.optional(alloc, "kind", schema_ref(alloc, "Kind")?)?;
     fields.required(alloc, "age", schema_ref(alloc, "Age")?)
+}
+
+// One name twice among those that have to be there, and one that has to be there first and then may be absent.
+fn fields_of_one_name(alloc: Global) -> Result<Fields, AllocError> {
+    let fields = Fields::new(alloc).required(alloc, "id", schema_ref(alloc, "Any")?)?;
+    let fields = fields.required(alloc, "kind", schema_ref(alloc, "Kind")?)?;
+    let fields = fields.required(alloc, "id", schema_ref(alloc, "Id")?)?;
+    fields.optional(alloc, "kind", schema_ref(alloc, "Other")?)
 }

@@ -5,8 +5,9 @@ use Rattle.serde_json.specs.Data.{Data}
 use Rattle.serde_json.specs.Find.{get}
 use Rattle.utoipa_base.specs.Extensions.{is_extension}
 use Rattle.utoipa_base.specs.Kinds.{Kind}
+use Rattle.utoipa_base.specs.EachMember.{each_member}
+use Rattle.utoipa_check.specs.Places.{members_at}
 use Rattle.utoipa_check.specs.References.{references}
-use Rattle.utoipa_outline.specs.Members.{members_at, each_member}
 use Rattle.utoipa_outline.specs.Used.{is_used}
 
 -- the name of an entry of `paths` (section 4.8.8), or of `webhooks`, that is no extension

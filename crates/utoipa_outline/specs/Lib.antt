@@ -1,4 +1,3 @@
-pub mod Members
 pub mod OneLine
 pub mod Operations
 pub mod Lines

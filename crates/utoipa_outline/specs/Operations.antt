@@ -4,7 +4,8 @@ use Rattle.std.specs.Str.{bytes_eq}
 use Rattle.serde_json.specs.Data.{Data}
 use Rattle.serde_json.specs.Find.{get}
 use Rattle.utoipa_base.specs.Extensions.{is_extension}
-use Rattle.utoipa_outline.specs.Members.{members_at, each_member}
+use Rattle.utoipa_base.specs.EachMember.{each_member}
+use Rattle.utoipa_check.specs.Places.{members_at}
 
 -- the members of a Path Item Object (section 4.8.9) that are operations, each with its method as HTTP has it; `query` from 3.2
 abbrev pub methods : List (List ℕ × List ℕ)

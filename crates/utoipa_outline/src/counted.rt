@@ -3,10 +3,10 @@ ghost use Rattle.std.specs.Prelude.{◌≡◌, ◌++◌, ◌&&◌, not, IfOk, On
 ghost use Rattle.std.specs.List.{flat_map};
 ghost use Rattle.std.specs.BTreeSet.{contains_text};
 ghost use Rattle.serde_json.specs.View.{view, members_view};
+ghost use Rattle.utoipa_base.specs.EachMember.{each_member};
 ghost use Rattle.utoipa_check.specs.Pointers.{escaped};
 ghost use Rattle.utoipa_check.specs.References.{references};
 ghost use Rattle.utoipa_outline.specs.Counted as specs;
-ghost use Rattle.utoipa_outline.specs.Members.{each_member};
 ghost use Rattle.utoipa_outline.specs.Used.{is_used};
 ghost use Rattle.utoipa_outline.specs.Views.{texts_of};
 ghost use Rattle.utoipa_tables.specs.Tables.{kind_of};

@@ -2,8 +2,8 @@
 ghost use Rattle.std.specs.Prelude.{◌≡◌, ◌++◌, ◌∷◌, [], IfOk, OnOk, codes, option_map};
 ghost use Rattle.serde_json.specs.Find.{get};
 ghost use Rattle.serde_json.specs.View.{view, members_view};
+ghost use Rattle.utoipa_base.specs.EachMember.{each_member};
 ghost use Rattle.utoipa_outline.specs.Operations as specs;
-ghost use Rattle.utoipa_outline.specs.Members.{each_member};
 ghost use Rattle.utoipa_outline.specs.Views.{all_operations};
 
 use serde_json::{Map, Value};

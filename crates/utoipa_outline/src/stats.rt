@@ -4,7 +4,7 @@ ghost use Rattle.serde_json.specs.Find.{get};
 ghost use Rattle.serde_json.specs.View.{view};
 ghost use Rattle.utoipa_outline.specs.Counted.{path_names as path_names_of, schema_names as schema_names_of, used_schemas, unused_schemas};
 ghost use Rattle.utoipa_outline.specs.Operations.{operations as operations_of};
-ghost use Rattle.utoipa_outline.specs.Stats.{IsReadings, IsStats, path_lines, schema_lines, tree_lines, stats_text};
+ghost use Rattle.utoipa_outline.specs.Stats.{path_lines, schema_lines, stats_lines as stats_lines_of, stats_text, tree_lines};
 ghost use Rattle.utoipa_tables.specs.Tables.{kind_of};
 
 use crate::counted::{path_names, schema_names, schemas};
@@ -12,7 +12,6 @@ use crate::depth::depth;
 use crate::operation::operations;
 use serde_json::Value;
 use std::alloc::{AllocError, Global};
-use utoipa_base::{ReadFault, Tree};
 use utoipa_tables::Kind;
 
 /// How many paths the member of this name has. Fails where memory runs out.
@@ -45,17 +44,6 @@ fn use_counts(alloc: Global, kind: Kind, document: &Value) -> Result<(usize, usi
     Ok((schemas.used.len(), schemas.unused.len()))
 }
 
-/// How often a schema is read where a tree is read as a value of a type. Fails where memory runs out.
-fn schema_readings<T: Tree>(alloc: Global, tree: &Value) -> Result<u64, AllocError>
-    ensures { IfOk result (λ n. IsReadings T.kind (view tree.now) n) }
-{
-    let counted = T::from_value_counted(alloc, tree);
-    match counted.outcome {
-        Err(ReadFault::Memory) => Err(AllocError),
-        _ => Ok(counted.readings),
-    }
-}
-
 /// How much there is of each thing.
 #[derive(Clone, Copy, Drop)]
 struct Counts {
@@ -65,7 +53,6 @@ struct Counts {
     schemas: usize,
     used: usize,
     unused: usize,
-    readings: u64,
     depth: usize,
     size: usize,
 }
@@ -98,24 +85,20 @@ fn put_schemas(counts: Counts, lines: &mut String) -> Result<(), AllocError>
     )
 }
 
-/// Adds the lines of the readings, the depth and the size. Fails where memory runs out.
+/// Adds the lines of the depth and the size. Fails where memory runs out.
 fn put_tree(counts: Counts, lines: &mut String) -> Result<(), AllocError>
     ensures { OnOk result (string_bytes lines.new
-        ≡ string_bytes lines.old ++ tree_lines counts.readings counts.depth counts.size) }
+        ≡ string_bytes lines.old ++ tree_lines counts.depth counts.size) }
 {
-    let readings = counts.readings;
     let depth = counts.depth;
     let size = counts.size;
-    write!(
-        lines,
-        "readings    {readings}\ndepth       {depth}\nsize        {size}\n"
-    )
+    write!(lines, "depth       {depth}\nsize        {size}\n")
 }
 
 /// The lines of all. Fails where memory runs out.
 fn lines_of(alloc: Global, counts: Counts) -> Result<String, AllocError>
     ensures { IfOk result (λ lines. string_bytes lines ≡ stats_text counts.paths counts.webhooks counts.operations
-        counts.schemas counts.used counts.unused counts.readings counts.depth counts.size) }
+        counts.schemas counts.used counts.unused counts.depth counts.size) }
 {
     let mut lines = String::new(alloc);
     put_paths(counts, &mut lines)?;
@@ -124,24 +107,22 @@ fn lines_of(alloc: Global, counts: Counts) -> Result<String, AllocError>
     Ok(lines)
 }
 
-/// How much a document of a type has of each thing, a line for each: its paths, its webhooks, the operations of both, the schemas of its
-/// components, those that it refers to and those that it does not, how often a schema is read where it is read, how deep its arrays and
-/// objects stand in each other, and the size that is given. The kind is that of the type. Fails where memory runs out.
-pub fn stats_lines<T: Tree>(
+/// How much a document of a kind has of each thing, a line for each: its paths, its webhooks, the operations of both, the schemas of its
+/// components, those that it refers to and those that it does not, how deep its arrays and objects stand in each other, and the size that is
+/// given. Fails where memory runs out.
+pub fn stats_lines(
     alloc: Global,
     kind: Kind,
     document: &Value,
     size: usize,
 ) -> Result<String, AllocError>
-    requires { kind_of kind ≡ T.kind }
-    ensures { IfOk result (λ lines. IsStats (kind_of kind) (view document.now) size (string_bytes lines)) }
+    ensures { IfOk result (λ lines. string_bytes lines ≡ stats_lines_of (kind_of kind) (view document.now) size) }
 {
     let paths = path_count(alloc, document, "paths")?;
     let webhooks = path_count(alloc, document, "webhooks")?;
     let operations = operation_count(alloc, document)?;
     let schemas = schema_count(alloc, document)?;
     let (used, unused) = use_counts(alloc, kind, document)?;
-    let readings = schema_readings::<T>(alloc, document)?;
     let depth = depth(document);
     let counts = Counts {
         paths,
@@ -150,7 +131,6 @@ pub fn stats_lines<T: Tree>(
         schemas,
         used,
         unused,
-        readings,
         depth,
         size,
     };

@@ -4,7 +4,6 @@ ghost use Rattle.utoipa_command.specs.Files.{AreOperations, AreStats, document_k
 ghost use Rattle.utoipa_findings.specs.Told.{Tells, IsRefused};
 
 use std::alloc::Global;
-use utoipa::openapi::OpenApi;
 use utoipa_findings::{Refusal, Source, tree_of_document};
 use utoipa_outline::{operation_lines, stats_lines};
 use utoipa_tables::{Kind, ObjectType};
@@ -20,8 +19,8 @@ pub fn operations(alloc: Global, source: Source<'_>) -> Result<String, Refusal>
 }
 
 /// A line for each thing that is counted of the document that a file is: its paths, its webhooks, their operations, the schemas of its components,
-/// those that it refers to and those that it does not, how often a schema is read, how deep its values stand in each other, and the bytes of
-/// the file. Fails where the file is no document, with lines that tell why, and where memory runs out.
+/// those that it refers to and those that it does not, how deep its values stand in each other, and the bytes of the file. Fails where the file
+/// is no document, with lines that tell why, and where memory runs out.
 pub fn stats(alloc: Global, source: Source<'_>) -> Result<String, Refusal>
     ensures ok { IfOk result (λ lines. AreStats source.entry.bytes.now (string_bytes lines)) }
     ensures err { IfErr result (Tells (IsRefused document_kind source.entry.name.now source.entry.bytes.now)) }
@@ -29,5 +28,5 @@ pub fn stats(alloc: Global, source: Source<'_>) -> Result<String, Refusal>
     let kind = Kind::Named(ObjectType::OpenApiObject);
     let size = source.bytes.len();
     let tree = tree_of_document(alloc, kind, source)?;
-    Ok(stats_lines::<OpenApi>(alloc, kind, &tree, size)?)
+    Ok(stats_lines(alloc, kind, &tree, size)?)
 }

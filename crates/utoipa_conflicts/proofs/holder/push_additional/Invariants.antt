@@ -1,7 +1,7 @@
 use Rattle.std.proofs.Common.{◌≡◌, ◌++◌, ◌∷◌, []}
 use Rattle.serde_json.specs.View.{members_view}
+use Rattle.utoipa_base.specs.EachMember.{each_member}
 use Rattle.utoipa_conflicts.specs.Conflicts.{additional_operation}
-use Rattle.utoipa_conflicts.specs.Trees.{each_member}
 use Rattle.utoipa_conflicts.specs.Views.{all_holders}
 use Rattle.utoipa_conflicts.proofs.holder.push_additional.Given as goal
 

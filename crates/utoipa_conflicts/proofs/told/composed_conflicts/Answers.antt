@@ -1,12 +1,15 @@
-use Rattle.std.proofs.Common.{◌≡◌, map, ap, sym, ◌∙◌, string_bytes}
+use Rattle.std.proofs.Common.{◌≡◌, length, map, ap, sym, ◌∙◌, string_bytes}
 use Rattle.std.proofs.lemmas.Result.{IfOk-weaker}
 use Rattle.std.proofs.lemmas.Simd.{map-map}
 use Rattle.serde_json.specs.View.{view}
 use Rattle.utoipa_base.specs.Writing.{write}
 use Rattle.utoipa_conflicts.specs.Merged.{in_text}
-use Rattle.utoipa_conflicts.specs.Nested.{nested_conflicts, told_nested}
+use Rattle.utoipa_conflicts.specs.Nested.{nested_conflicts, nested_paths, told_nested}
 use Rattle.utoipa_conflicts.specs.Views.{conflict_of, all_told}
 use Rattle.utoipa_conflicts.proofs.told.composed_conflicts.Goals as goal
+
+pub tree_nested_conflicts-requires : goal.tree_nested_conflicts-requires
+tree_nested_conflicts-requires g c = c.requires ∙ ap (λ d. length (nested_paths d)) (sym c.in_ok-nested.ensures)
 
 pub returns : goal.returns
 returns g c =

@@ -1,7 +1,7 @@
 use Rattle.std.proofs.Common.{◌≡◌, ◌++◌}
 use Rattle.serde_json.specs.View.{members_view}
+use Rattle.utoipa_base.specs.EachMember.{each_member}
 use Rattle.utoipa_outline.specs.Counted.{any_name}
-use Rattle.utoipa_outline.specs.Members.{each_member}
 use Rattle.utoipa_outline.specs.Views.{texts_of}
 use Rattle.utoipa_outline.proofs.counted.push_all_names.Given as goal
 

@@ -1,6 +1,6 @@
 use Rattle.std.proofs.Common.{◌≡◌, ◌++◌}
 use Rattle.serde_json.specs.View.{members_view}
-use Rattle.utoipa_outline.specs.Members.{each_member}
+use Rattle.utoipa_base.specs.EachMember.{each_member}
 use Rattle.utoipa_outline.specs.Operations.{operation}
 use Rattle.utoipa_outline.specs.Views.{all_operations}
 use Rattle.utoipa_outline.proofs.operation.push_additional.Given as goal

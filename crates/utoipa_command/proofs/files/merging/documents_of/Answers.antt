@@ -1,5 +1,6 @@
+use Rattle.utoipa_findings.proofs.Fitting.{passed_on}
 use Rattle.utoipa.specs.OpenApi.{openapi_doc}
-use Rattle.utoipa_command.proofs.EachFile.{one_refused_told, passed_on, sources_put}
+use Rattle.utoipa_command.proofs.EachFile.{one_refused_told, sources_put}
 use Rattle.utoipa_command.proofs.files.merging.documents_of.Goals as goal
 
 pub returns-in_err-document-clause-err : goal.returns-in_err-document-clause-err

@@ -1,11 +1,12 @@
 use Rattle.std.proofs.Common.{◌∙◌, map, ap, sym, subst}
 use Rattle.utoipa_base.proofs.Results.{if_is}
+use Rattle.utoipa_findings.proofs.Fitting.{passed_on}
 use Rattle.utoipa_findings.specs.Views.{names_of}
 use Rattle.utoipa_merging.specs.Merged.{IsMerged}
 use Rattle.utoipa.specs.OpenApi.{openapi_doc}
 use Rattle.utoipa_command.specs.Files.{dropped_lines, file_of}
 use Rattle.utoipa_command.proofs.FileDocuments.{merged, ok_is, err_is}
-use Rattle.utoipa_command.proofs.EachFile.{dropping_told, names_are, passed_on}
+use Rattle.utoipa_command.proofs.EachFile.{dropping_told, names_are}
 use Rattle.utoipa_command.proofs.files.merging.merge.Goals as goal
 
 pub returns-in_err-documents-2-clause-err : goal.returns-in_err-documents-2-clause-err
