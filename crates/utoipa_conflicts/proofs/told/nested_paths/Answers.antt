@@ -13,4 +13,4 @@ returns-clause-paths g c =
     c.all_joined.ensures
 
 pub returns-clause-count : goal.returns-clause-count
-returns-clause-count g c = IfOk-weaker c.all_joined.result _ _ (λ v is. sym (length-map v.items string_bytes) ∙ ap length is) (returns-clause-paths g c)
+returns-clause-count g c = IfOk-weaker c.all_joined.result _ _ (λ v is. v.ok.0 ∙ sym (length-map v.items string_bytes) ∙ ap length is) (returns-clause-paths g c)
