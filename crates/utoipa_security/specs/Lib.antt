@@ -1,6 +1,7 @@
 pub mod ApiKey
 pub mod Flows
 pub mod Http
+pub mod Members
 pub mod OAuth
 pub mod OpenIdConnect
 pub mod Requirement
