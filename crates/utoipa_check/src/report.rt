@@ -36,7 +36,7 @@ pub fn misfits<'a>(alloc: Global, kind: Kind, tree: &'a Value) -> Result<Report<
         ≡ misfits_and_fractions (kind_of kind) (view tree.now)) }
     ensures exact { IfOk result (λ r. (r.misfits.items ≡ [])
         ↔ ((doc : Doc) × ReadsAs (kind_of kind) (view tree.now) doc)) }
-    ensures sound { IfOk result (λ r. AllTrue (view tree.now) (misfits_of r.misfits.items)) }
+    ensures sound { IfOk result (λ r. AllTrue (kind_of kind) (view tree.now) (misfits_of r.misfits.items)) }
     ensures visits { IfOk result
         (λ r. r.visits ≤ (if has_float (view tree.now) then 2 * values (view tree.now) else values (view tree.now))) }
 {

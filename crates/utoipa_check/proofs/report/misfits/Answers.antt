@@ -21,4 +21,4 @@ pub returns-clause-exact : goal.returns-clause-exact
 returns-clause-exact c = empty_exactly (kind_of c.args.kind) (view c.args.tree.now) _ (returns-clause-found c)
 
 pub returns-clause-sound : goal.returns-clause-sound
-returns-clause-sound c = subst (AllTrue (view c.args.tree.now)) (sym (returns-clause-found c)) (misfits_and_fractions_sound (kind_of c.args.kind) (view c.args.tree.now))
+returns-clause-sound c = subst (AllTrue (kind_of c.args.kind) (view c.args.tree.now)) (sym (returns-clause-found c)) (misfits_and_fractions_sound (kind_of c.args.kind) (view c.args.tree.now))
