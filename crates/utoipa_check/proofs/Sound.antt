@@ -1,5 +1,5 @@
 -- Each misfit is true: its steps lead to a tree, of which its cause holds.
-use Rattle.std.proofs.Common.{◌≡◌, inl, inr, ℕ, suc, ◌+◌, List, [], ◌∷◌, ◌++◌, Bool, true, false, cond, nat_cmp, codes, Option, Some, None, is_some, refl, sym, ap, subst, ◌∙◌, ◌||◌, Ordering, Less, Equal, Greater, arith, true≢false}
+use Rattle.std.proofs.Common.{◌≡◌, inl, inr, ℕ, zero, suc, ◌+◌, List, [], ◌∷◌, ◌++◌, Bool, true, false, cond, nat_cmp, codes, Option, Some, None, is_some, refl, sym, ap, subst, ◌∙◌, ◌||◌, ◌&&◌, not, Ordering, Less, Equal, Greater, arith, true≢false}
 use Rattle.std.specs.List.{list_any}
 use Rattle.std.specs.Str.{bytes_eq}
 use Rattle.std.specs.Ordering.{match_ordering}
@@ -7,6 +7,7 @@ use Rattle.std.specs.Cmp.Lexicographic.{slice_cmp}
 use Rattle.std.proofs.lemmas.Map.Lookups.{exact_bytes}
 use Rattle.serde_json.specs.Data.{Num, Data, null, boolean, number, string, array, object, Items, no_items, item, Members, no_members, member}
 use Rattle.serde_json.specs.Find.{as_integer, as_u64, get_member, get_item, is_float}
+use Rattle.serde_json.specs.Written.{has_float, items_have_float, members_have_float}
 use Rattle.utoipa_base.specs.Kinds.{ObjectType, one_of_schema, all_of_schema, any_of_schema, array_schema, object_schema, reference_object, type_word, Kind, text, flag, whole, numeral, any, word_of, version, list_of, map_of, ordered_map_of, entries_of, ref_or, named, schema, schema_type, schema_format, array_items, additional_properties, security_scheme, api_key, flows, Mark, required, optional, or_null, defaulted, Row}
 use Rattle.utoipa_base.specs.Words.{words}
 use Rattle.utoipa_base.specs.Version.{read_version}
@@ -16,13 +17,25 @@ use Rattle.utoipa_base.specs.Tables.{table}
 use Rattle.utoipa_base.specs.Extensions.{is_extension}
 use Rattle.utoipa_base.specs.Reading.{is_null, is_named, reader, read}
 use Rattle.utoipa_check.specs.IsDropped.{IsMember, StandsIn}
-use Rattle.utoipa_check.specs.Misfits.{Step, at_name, at_index, Cause, absent, expected, unknown_word, no_alternative, fraction, Misfits, here, under, is_fit, expect, unless_fit, Check, Checks, check_at, entry_checks, row_misfits, rows_misfits, table_misfits, items_misfits, entries_misfits, says_array, meant_schema, fits_table, fits_schema, schema_misfits, ref_or_misfits, alternative_misfits, chosen_misfits, tagged_misfits, api_key_misfits, scheme_misfits, security_scheme_misfits, flow_misfits, flows_misfits, null_misfits, boolean_misfits, number_misfits, string_misfits, array_misfits, object_misfits, checker, item_checkers, checks, misfits, fractions, items_fractions, members_fractions, misfits_and_fractions}
+use Rattle.utoipa_check.specs.Misfits.{Step, at_name, at_index, Cause, absent, expected, unknown_word, no_alternative, fraction, Misfit, Misfits, here, under, is_fit, mismatch, expect, expect_of, unless_fit, Check, Checks, check_at, entry_checks, row_misfits, rows_misfits, table_misfits, items_misfits, entries_misfits, says_array, meant_schema, fits_table, fits_schema, schema_misfits, ref_or_misfits, alternative_misfits, chosen_misfits, tagged_misfits, api_key_misfits, scheme_misfits, security_scheme_misfits, flow_misfits, flows_misfits, null_misfits, boolean_misfits, number_misfits, string_misfits, array_misfits, object_misfits, checker, item_checkers, checks, misfits, fractions, items_fractions, members_fractions, is_fraction, without_fractions, misfits_and_fractions}
 use Rattle.utoipa_tables.specs.Tables.{words_of_choices, flow_kinds}
-use Rattle.utoipa_check.specs.Truth.{Due, of_kind, of_any_flow, of_words, IsTakenAsReference, IsNoReference, Chooses, IsTakenAs, IsRow, flow_due, IsDueBehind, Requires, IsNoneOf, is_container, sort, IsOfAnotherSort, words_at, Reaches, IsFraction, IsTrueAt, AllTrueAt, AllTrue}
-use Rattle.utoipa_check.proofs.Exact.{misfits_exact, unless_fit-fit}
+use Rattle.utoipa_check.specs.Truth.{Due, of_kind, of_any_flow, of_words, IsTakenAsReference, IsNoReference, Chooses, IsTakenAs, IsRow, flow_due, Stands, IsDueBehind, kind_at, Requires, IsNoneOf, is_container, sort, IsOfAnotherSort, words_at, Reaches, IsFraction, IsTrueAt, AllTrueAt, AllTrue}
+use Rattle.utoipa_check.proofs.Exact.{misfits_exact, fractions_exact, join_fit, and_same, unless_fit-fit}
 use Rattle.utoipa_check.proofs.Trues.{stands, as_wider, as_own, as_table, join_true, either_true, under_true, here_true, expected_true}
 
 -- ---- results
+
+or_first : (a b : Bool) → a ≡ true → a || b ≡ true
+or_first true b e = refl
+or_first false b e = absurd (true≢false (sym e))
+
+or_second : (a b : Bool) → b ≡ true → a || b ≡ true
+or_second true b e = refl
+or_second false b e = e
+
+abbrev float_or : Option Data → Bool → Bool
+float_or None b = b
+float_or (Some d) b = has_float d
 
 none_there : (o : Option Doc) → is_some o ≡ false → o ≡ None
 none_there None e = refl
@@ -76,13 +89,29 @@ expect_refused : (b : Bool) (k : Kind) → b ≡ false → is_fit (expect b k) �
 expect_refused true k e = absurd (true≢false e)
 expect_refused false k e = refl
 
+expect_of_refused : (b : Bool) (k : Kind) (d : Data) → b ≡ false → is_fit (expect_of b k d) ≡ false
+expect_of_refused true k d e = absurd (true≢false e)
+expect_of_refused false k d e = refl
+
+-- a number of another sort than a place expects, by whether it is a fraction
+mismatch_true : (e : Due) (k : Kind) (n : Num) → Stands e (number n) e → kind_at e ≡ Some k → IsOfAnotherSort k (number n) → (b : Bool) → is_float n ≡ b → AllTrueAt e (number n) (here (cond b fraction (expected k)))
+mismatch_true e k n s is other true float = here_true fraction e (number n) s (n, refl, float)
+mismatch_true e k n s is other false float = here_true (expected k) e (number n) s (is, other)
+
+other_number : (n : Num) (k : Kind) → IsOfAnotherSort k (number n) → AllTrue k (number n) (here (mismatch k (number n)))
+other_number n k other = mismatch_true (of_kind k) k n (stands k (number n)) refl other (is_float n) refl
+
+expect_of_true : (n : Num) (b : Bool) (k : Kind) → (b ≡ false → IsOfAnotherSort k (number n)) → AllTrue k (number n) (expect_of b k (number n))
+expect_of_true n true k f = tt
+expect_of_true n false k f = other_number n k (f refl)
+
 number_true : (n : Num) (k : Kind) → AllTrue k (number n) (number_misfits n k)
 unfolding reader checker
-number_true n whole = expect_true (number n) (is_some (as_u64 n)) whole (λ e. (refused whole (number n) (expect_refused (is_some (as_u64 n)) whole e), refl))
-number_true n numeral = expect_true (number n) (is_some (as_integer n)) numeral (λ e. (refused numeral (number n) (expect_refused (is_some (as_integer n)) numeral e), refl))
+number_true n whole = expect_of_true n (is_some (as_u64 n)) whole (λ e. (refused whole (number n) (expect_of_refused (is_some (as_u64 n)) whole (number n) e), refl))
+number_true n numeral = expect_of_true n (is_some (as_integer n)) numeral (λ e. (refused numeral (number n) (expect_of_refused (is_some (as_integer n)) numeral (number n) e), refl))
 number_true n any = tt
 number_true n (ref_or k) = as_own k (number n) (inl refl) (number_misfits n k) (number_true n k)
-number_true n k = expected_true k (number n) (refl, refl)
+number_true n k = other_number n k (refl, refl)
 
 string_true : (s : List ℕ) (k : Kind) → AllTrue k (string s) (string_misfits s k)
 unfolding reader checker
@@ -355,7 +384,9 @@ unfolding reader
 tagged_true outer name choices f ms None e needs due h = absent_true outer name ms needs e
 tagged_true outer name choices f ms (Some null) e needs due h = no_text outer name (words_of_choices choices) ms null due e refl refl
 tagged_true outer name choices f ms (Some (boolean b)) e needs due h = no_text outer name (words_of_choices choices) ms (boolean b) due e refl refl
-tagged_true outer name choices f ms (Some (number n)) e needs due h = no_text outer name (words_of_choices choices) ms (number n) due e refl refl
+tagged_true outer name choices f ms (Some (number n)) e needs due h =
+    let ws = words_of_choices choices in
+    under_true (at_name name) outer (object ms) (of_words ws) (number n) (got_member name ms (number n) e) due (here (mismatch text (number n))) (mismatch_true (of_words ws) text n refl refl (refl, refl) (is_float n) refl)
 tagged_true outer name choices f ms (Some (string s)) e needs due h = chosen_true outer name s choices f ms (chosen s choices) refl due e h
 tagged_true outer name choices f ms (Some (array ds)) e needs due h = no_text outer name (words_of_choices choices) ms (array ds) due e refl refl
 tagged_true outer name choices f ms (Some (object l)) e needs due h = no_text outer name (words_of_choices choices) ms (object l) due e refl refl
@@ -497,6 +528,64 @@ fractions_true : (e : Due) (d : Data) (xs : Misfits) → AreFractions d xs → A
 fractions_true e d [] h = tt
 fractions_true e d (x ∷ xs) h = (subst (λ c. IsTrueAt c x.0 e d) (sym h.0.0) h.0.1, fractions_true e d xs h.1)
 
+others_by : (e : Due) (d : Data) (b : Bool) (x : Misfit) (xs : Misfits) → IsTrueAt x.1 x.0 e d → AllTrueAt e d xs → AllTrueAt e d (cond b xs (x ∷ xs))
+others_by e d true x xs g h = h
+others_by e d false x xs g h = (g, h)
+
+others_true : (e : Due) (d : Data) (xs : Misfits) → AllTrueAt e d xs → AllTrueAt e d (without_fractions xs)
+others_true e d [] h = tt
+others_true e d (x ∷ xs) h = others_by e d (is_fraction x.1) x (without_fractions xs) h.0 (others_true e d xs h.1)
+
 -- each misfit and each fraction is true
 pub misfits_and_fractions_sound : (k : Kind) (t : Data) → AllTrue k t (misfits_and_fractions k t)
-misfits_and_fractions_sound k t = join_true (of_kind k) t (misfits k t) (fractions t) (misfits_sound k t) (fractions_true (of_kind k) t (fractions t) (are_fractions t))
+misfits_and_fractions_sound k t = join_true (of_kind k) t (without_fractions (misfits k t)) (fractions t) (others_true (of_kind k) t (misfits k t) (misfits_sound k t)) (fractions_true (of_kind k) t (fractions t) (are_fractions t))
+
+-- ---- misfits of a tree without fractions
+
+in_items : (i : ℕ) (ds : Items) (e : Data) → get_item i ds ≡ Some e → has_float e ≡ true → items_have_float ds ≡ true
+in_items i no_items e there h = absurd (true≢false (sym (ap is_some there)))
+in_items zero (item d ds) e there h = or_first (has_float d) (items_have_float ds) (ap (λ o. float_or o false) there ∙ h)
+in_items (suc i) (item d ds) e there h = or_second (has_float d) (items_have_float ds) (in_items i ds e there h)
+
+in_members : (name : List ℕ) (ms : Members) (e : Data) → IsMember name e ms → has_float e ≡ true → members_have_float ms ≡ true
+in_members name no_members e there h = absurd there
+in_members name (member l d ms) e there h = elim there [
+  | inl same ↦ or_first (has_float d) (members_have_float ms) (ap has_float (sym same.1) ∙ h)
+  | inr later ↦ or_second (has_float d) (members_have_float ms) (in_members name ms e later h)
+]
+
+inside : (s : Step) (d e : Data) → StandsIn s e d → has_float e ≡ true → has_float d ≡ true
+inside (at_name name) (object ms) e there h = in_members name ms e there h
+inside (at_index i) (array ds) e there h = in_items i ds e there h
+inside s d e there h = absurd there
+
+-- a tree in which a fraction is reached has one
+reached : (p : List Step) (d t : Data) → Reaches p d t → IsFraction t → has_float d ≡ true
+reached [] d t same is = ap has_float (same ∙ is.1) ∙ is.2
+reached (s ∷ p) d t h is = inside s d h.0 h.1 (reached p h.0 t h.2 is)
+
+no_fraction : (c : Cause) (p : List Step) (e : Due) (d : Data) → has_float d ≡ false → IsTrueAt c p e d → is_fraction c ≡ false
+no_fraction (absent name) p e d plain h = refl
+no_fraction (expected k) p e d plain h = refl
+no_fraction (unknown_word ws) p e d plain h = refl
+no_fraction (no_alternative ks) p e d plain h = refl
+no_fraction fraction p e d plain h = absurd (true≢false (sym (reached p d h.0 h.1 h.2) ∙ plain))
+
+all_kept : (e : Due) (d : Data) → has_float d ≡ false → (xs : Misfits) → AllTrueAt e d xs → without_fractions xs ≡ xs
+all_kept e d plain [] h = refl
+all_kept e d plain (x ∷ xs) h = ap (λ b. cond b (without_fractions xs) (x ∷ without_fractions xs)) (no_fraction x.1 x.0 e d plain h.0) ∙ ap (λ ys. x ∷ ys) (all_kept e d plain xs h.1)
+
+pub plain_kept : (k : Kind) (d : Data) → has_float d ≡ false → without_fractions (misfits k d) ≡ misfits k d
+plain_kept k d plain = all_kept (of_kind k) d plain (misfits k d) (misfits_sound k d)
+
+and_false : (a : Bool) → a && false ≡ false
+and_false true = refl
+and_false false = refl
+
+exact_by : (k : Kind) (t : Data) (b : Bool) → has_float t ≡ b → is_fit (misfits_and_fractions k t) ≡ is_some (read k t) && not b
+exact_by k t true e = join_fit (without_fractions (misfits k t)) (fractions t) ∙ ap (λ x. is_fit (without_fractions (misfits k t)) && x) (fractions_exact t ∙ ap not e) ∙ and_false (is_fit (without_fractions (misfits k t))) ∙ sym (and_false (is_some (read k t)))
+exact_by k t false e = join_fit (without_fractions (misfits k t)) (fractions t) ∙ and_same (ap is_fit (plain_kept k t e) ∙ misfits_exact k t) (fractions_exact t ∙ ap not e)
+
+-- a tree has no misfit and no fraction exactly where it is plain and reads as a document
+pub misfits_and_fractions_exact : (k : Kind) (t : Data) → is_fit (misfits_and_fractions k t) ≡ is_some (read k t) && not (has_float t)
+misfits_and_fractions_exact k t = exact_by k t (has_float t) refl

@@ -9,17 +9,17 @@ use Rattle.utoipa_check.specs.Truth.{Due, of_kind, IsTakenAsTable, IsNoReference
 -- ---- as which kind a tree is taken
 
 -- a tree is taken as the kind that is due
-pub self : (k : Kind) (t : Data) → IsTakenAs k t k
-self (ref_or k) t = inl refl
-self array_items t = inl refl
-self additional_properties t = inl refl
-self schema t = inl refl
-self security_scheme t = inl refl
-self api_key t = inl refl
-self k t = refl
+pub itself : (k : Kind) (t : Data) → IsTakenAs k t k
+itself (ref_or k) t = inl refl
+itself array_items t = inl refl
+itself additional_properties t = inl refl
+itself schema t = inl refl
+itself security_scheme t = inl refl
+itself api_key t = inl refl
+itself k t = refl
 
 pub stands : (k : Kind) (t : Data) → Stands (of_kind k) t (of_kind k)
-stands k t = (k, self k t, refl)
+stands k t = (k, itself k t, refl)
 
 -- ---- where another kind is due
 
