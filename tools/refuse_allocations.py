@@ -152,7 +152,6 @@ CASES = [
     ("own-schema\t", 4, []),
     # Look through a tree.
     ("misfits ", 2, ["no JSON"]),
-    ("visits ", 1, ["no JSON"]),
     ("doubts ", 2, ["no JSON"]),
     ("references ", 2, ["no JSON"]),
     ("conflicts\t", 10, ["no list"]),

@@ -1,42 +1,46 @@
 -- Each doubt is true: its steps lead to a tree, of which its cause holds.
-use Rattle.std.proofs.Common.{◌≡◌, inl, inr, ℕ, suc, ◌+◌, List, [], ◌∷◌, Bool, true, false, cond, nat_cmp, codes, Option, Some, None, refl, sym, subst, Ordering, Less, Equal, Greater, arith}
+use Rattle.std.proofs.Common.{◌≡◌, inl, inr, ℕ, suc, ◌+◌, List, [], ◌∷◌, Bool, true, false, cond, nat_cmp, codes, Option, Some, None, refl, sym, subst, ◌∙◌, Ordering, Less, Equal, Greater, arith}
 use Rattle.std.specs.Ordering.{match_ordering}
 use Rattle.std.specs.Cmp.Lexicographic.{slice_cmp}
 use Rattle.std.proofs.lemmas.Map.Lookups.{exact_bytes}
 use Rattle.serde_json.specs.Data.{Data, null, boolean, number, string, array, object, Items, no_items, item, Members, no_members, member}
 use Rattle.serde_json.specs.Find.{get_item}
-use Rattle.utoipa_base.specs.Kinds.{reference_object, Kind, list_of, map_of, ordered_map_of, entries_of, ref_or, named, schema, Row}
+use Rattle.utoipa_base.specs.Choices.{is_schema_type}
+use Rattle.utoipa_base.specs.Kinds.{ObjectType, reference_object, one_of_schema, all_of_schema, any_of_schema, array_schema, object_schema, Kind, list_of, map_of, ordered_map_of, entries_of, ref_or, named, schema, array_items, additional_properties, Row}
 use Rattle.utoipa_base.specs.Extensions.{is_extension}
 use Rattle.utoipa_base.specs.Reading.{is_named}
 use Rattle.utoipa_base.specs.Tables.{table}
 use Rattle.utoipa_check.specs.Taken.{taken_schema}
 use Rattle.utoipa_check.specs.Doubts.{row_doubts, rows_doubts, meant_doubts, schema_doubts, reference_doubts, array_doubts, own_doubts, object_doubts, doubter, item_doubters, doubters, doubts}
-use Rattle.utoipa_check.specs.Misfits.{at_name, at_index, Misfits, under, Check, Checks, check_at, entry_checks, items_misfits, entries_misfits, table_misfits, object_misfits, fits_schema, meant_schema, checks}
-use Rattle.utoipa_check.specs.Truth.{IsMember, AllTrue}
+use Rattle.utoipa_check.specs.Misfits.{at_name, at_index, Misfits, under, is_fit, Check, Checks, check_at, entry_checks, items_misfits, entries_misfits, table_misfits, object_misfits, fits_table, fits_schema, may_be_object, meant_schema, checker, checks}
+use Rattle.utoipa_check.specs.IsDropped.{IsMember}
+use Rattle.utoipa_check.specs.Truth.{Due, of_kind, IsTakenAsTable, IsTakenAsReference, IsNoReference, IsTakenAs, IsRow, AllTrueAt, AllTrue}
 use Rattle.utoipa_check.specs.Views.{takes_references, object_kind}
-use Rattle.utoipa_check.proofs.Sound.{join_true, under_name, under_index, table_sound}
+use Rattle.utoipa_check.proofs.Exact.{misfits_exact}
+use Rattle.utoipa_check.proofs.Sound.{refused, meant_is, as_meant, AllDue, all_due, entries_due, table_sound}
+use Rattle.utoipa_check.proofs.Trues.{as_wider, as_own, as_table, join_true, either_true, under_true}
 
 -- ---- arrays
 
 -- all doubts of a tree are true, of whatever kind it is asked
 abbrev IsSound : Data → Type 0
-IsSound d = (k : Kind) → AllTrue d (doubter d k)
+IsSound d = (k : Kind) → AllTrue k d (doubter d k)
 
 abbrev ItemsSound : Items → Type 0
 ItemsSound no_items = Unit {0}
 ItemsSound (item d ds) = IsSound d × ItemsSound ds
 
-items_true : (k : Kind) (all : Items) (i : ℕ) (ds : Items) → ((j : ℕ) (e : Data) → get_item j ds ≡ Some e → get_item (i + j) all ≡ Some e) → ItemsSound ds → AllTrue (array all) (items_misfits i k (item_doubters ds))
+items_true : (k : Kind) (all : Items) (i : ℕ) (ds : Items) → ((j : ℕ) (e : Data) → get_item j ds ≡ Some e → get_item (i + j) all ≡ Some e) → ItemsSound ds → AllTrue (list_of k) (array all) (items_misfits i k (item_doubters ds))
 unfolding item_doubters
 items_true k all i no_items within h = tt
 items_true k all i (item d ds) within h =
-    join_true (array all) (under (at_index i) (doubter d k)) (items_misfits (suc i) k (item_doubters ds))
-    (under_index i d all (subst (λ n. get_item n all ≡ Some d) (omega arith) (within 0 d refl)) (doubter d k) (h.0 k))
+    join_true (of_kind (list_of k)) (array all) (under (at_index i) (doubter d k)) (items_misfits (suc i) k (item_doubters ds))
+    (under_true (at_index i) (list_of k) (array all) (of_kind k) d (subst (λ n. get_item n all ≡ Some d) (omega arith) (within 0 d refl)) refl (doubter d k) (h.0 k))
     (items_true k all (suc i) ds (λ j e there. subst (λ n. get_item n all ≡ Some e) (omega arith) (within (suc j) e there)) h.1)
 
-array_true : (ds : Items) → ItemsSound ds → (k : Kind) → AllTrue (array ds) (array_doubts (item_doubters ds) k)
+array_true : (ds : Items) → ItemsSound ds → (k : Kind) → AllTrue k (array ds) (array_doubts (item_doubters ds) k)
 array_true ds h (list_of k) = items_true k ds 0 ds (λ j e there. subst (λ n. get_item n ds ≡ Some e) (omega arith) there) h
-array_true ds h (ref_or k) = array_true ds h k
+array_true ds h (ref_or k) = as_own k (array ds) (inl refl) (array_doubts (item_doubters ds) k) (array_true ds h k)
 array_true ds h k = tt
 
 -- ---- members
@@ -47,7 +51,7 @@ MembersSound (member k d ms) = IsSound d × MembersSound ms
 
 -- what is in doubt is true of a member of this name
 abbrev DoubtTrue : Members → List ℕ → Check → Type 0
-DoubtTrue all name c = (e : Data) × IsMember name e all × ((k : Kind) → AllTrue e (c.1 k))
+DoubtTrue all name c = (e : Data) × IsMember name e all × ((k : Kind) → AllTrue k e (c.1 k))
 
 abbrev DoubtsTrue : Members → Checks → Type 0
 DoubtsTrue all [] = Unit {0}
@@ -76,17 +80,22 @@ found_at all name (c ∷ cs) h =
 
 -- ---- rows and maps
 
-row_true : (name : List ℕ) (k : Kind) (all : Members) (o : Option Check) → Found all name o → AllTrue (object all) (row_doubts name k o)
-row_true name k all None h = tt
-row_true name k all (Some c) h = under_name name h.0 all h.1 (c.1 k) (h.2 k)
+row_true : (n : ObjectType) (r : Row) → IsRow r (table n) → (all : Members) (o : Option Check) → Found all r.name o → AllTrue (named n) (object all) (row_doubts r.name r.kind o)
+row_true n r there all None h = tt
+row_true n r there all (Some c) h = under_true (at_name r.name) (named n) (object all) (of_kind r.kind) h.0 h.1 (r, there, refl, refl) (c.1 r.kind) (h.2 r.kind)
 
-rows_true : (rs : List Row) (all : Members) (cs : Checks) → DoubtsTrue all cs → AllTrue (object all) (rows_doubts rs cs)
-rows_true [] all cs h = tt
-rows_true (r ∷ rs) all cs h = join_true (object all) (row_doubts r.name r.kind (check_at r.name cs)) (rows_doubts rs cs) (row_true r.name r.kind all (check_at r.name cs) (found_at all r.name cs h)) (rows_true rs all cs h)
+rows_true : (n : ObjectType) (rs : List Row) → ((r : Row) → IsRow r rs → IsRow r (table n)) → (all : Members) (cs : Checks) → DoubtsTrue all cs → AllTrue (named n) (object all) (rows_doubts rs cs)
+rows_true n [] within all cs h = tt
+rows_true n (r ∷ rs) within all cs h =
+    join_true (of_kind (named n)) (object all) (row_doubts r.name r.kind (check_at r.name cs)) (rows_doubts rs cs) (row_true n r (within r (inl refl)) all (check_at r.name cs) (found_at all r.name cs h)) (rows_true n rs (λ q there. within q (inr there)) all cs h)
 
-entries_true : (k : Kind) (all : Members) (cs : Checks) → DoubtsTrue all cs → AllTrue (object all) (entries_misfits k cs)
-entries_true k all [] h = tt
-entries_true k all (c ∷ cs) h = join_true (object all) (under (at_name c.0) (c.1.1 k)) (entries_misfits k cs) (under_name c.0 h.0.0 all h.0.1 (c.1.1 k) (h.0.2 k)) (entries_true k all cs h.1)
+table_true : (n : ObjectType) (all : Members) (cs : Checks) → DoubtsTrue all cs → AllTrue (named n) (object all) (rows_doubts (table n) cs)
+table_true n all cs h = rows_true n (table n) (λ r there. there) all cs h
+
+entries_true : (outer k : Kind) (all : Members) (cs : Checks) → AllDue outer k cs → DoubtsTrue all cs → AllTrue outer (object all) (entries_misfits k cs)
+entries_true outer k all [] due h = tt
+entries_true outer k all (c ∷ cs) due h =
+    join_true (of_kind outer) (object all) (under (at_name c.0) (c.1.1 k)) (entries_misfits k cs) (under_true (at_name c.0) outer (object all) (of_kind k) h.0.0 h.0.1 due.0 (c.1.1 k) (h.0.2 k)) (entries_true outer k all cs due.1 h.1)
 
 kept_true : (all : Members) (b : Bool) (c : List ℕ × Check) (cs : Checks) → DoubtTrue all c.0 c.1 → DoubtsTrue all cs → DoubtsTrue all (cond b cs (c ∷ cs))
 kept_true all true c cs g h = h
@@ -98,39 +107,76 @@ entry_checks_true all (c ∷ cs) h = kept_true all (is_extension c.0) c (entry_c
 
 -- ---- choices
 
-either_true : (d : Data) (b : Bool) (xs ys : Misfits) → AllTrue d xs → AllTrue d ys → AllTrue d (cond b xs ys)
-either_true d true xs ys g h = g
-either_true d false xs ys g h = h
+-- the table by which a schema is read, by five tests of which fit
+taken_by : (P : ObjectType → Type 0) (meant : ObjectType) (a b c d e f : Bool) → (a ≡ true → P one_of_schema) → (b ≡ true → P all_of_schema) → (c ≡ true → P any_of_schema) → (d ≡ true → P array_schema) → (f ≡ true → P object_schema) → P meant
+    → P (cond a one_of_schema (cond b all_of_schema (cond c any_of_schema (cond d array_schema (cond e (cond f object_schema meant) meant)))))
+taken_by P meant true b c d e f u v w x y h = u refl
+taken_by P meant false true c d e f u v w x y h = v refl
+taken_by P meant false false true d e f u v w x y h = w refl
+taken_by P meant false false false true e f u v w x y h = x refl
+taken_by P meant false false false false true true u v w x y h = y refl
+taken_by P meant false false false false true false u v w x y h = h
+taken_by P meant false false false false false f u v w x y h = h
 
-schema_true : (ms : Members) (ds : Checks) → DoubtsTrue ms ds → AllTrue (object ms) (schema_doubts ms (checks ms) ds)
+reads_as : (n : ObjectType) (ms : Members) → is_schema_type n ≡ true → fits_table n (checks ms) ≡ true → IsTakenAsTable (object ms) n
+unfolding checker
+reads_as n ms is e = (is, inr (sym (misfits_exact (named n) (object ms)) ∙ e))
+
+-- it is the one that was meant, or one that the object reads as
+taken_is : (ms : Members) → IsTakenAsTable (object ms) (taken_schema ms (checks ms))
+taken_is ms =
+    let cs = checks ms in
+    taken_by (λ n. IsTakenAsTable (object ms) n) (meant_schema ms) (fits_table one_of_schema cs) (fits_table all_of_schema cs) (fits_table any_of_schema cs) (fits_table array_schema cs) (may_be_object ms) (fits_table object_schema cs)
+    (reads_as one_of_schema ms refl) (reads_as all_of_schema ms refl) (reads_as any_of_schema ms refl) (reads_as array_schema ms refl) (reads_as object_schema ms refl) (meant_is ms, inl refl)
+
+schema_true : (ms : Members) (ds : Checks) → DoubtsTrue ms ds → AllTrue schema (object ms) (schema_doubts ms (checks ms) ds)
 schema_true ms ds h =
     let meant = table_misfits (meant_schema ms) (checks ms) in
-    join_true (object ms) (meant_doubts ms (checks ms)) (rows_doubts (table (taken_schema ms (checks ms))) ds) (either_true (object ms) (fits_schema ms (checks ms)) meant [] (table_sound (meant_schema ms) ms) tt) (rows_true (table (taken_schema ms (checks ms))) ms ds h)
+    let kept = rows_doubts (table (taken_schema ms (checks ms))) ds in
+    join_true (of_kind schema) (object ms) (meant_doubts ms (checks ms)) kept
+    (either_true (of_kind schema) (object ms) (fits_schema ms (checks ms)) meant [] (as_meant ms meant (table_sound (meant_schema ms) ms)) tt)
+    (as_table (taken_schema ms (checks ms)) (object ms) (taken_is ms) kept (table_true (taken_schema ms (checks ms)) ms ds h))
 
-reference_true : (d : Data) (b : Bool) (rs ms ds : Misfits) → AllTrue d rs → AllTrue d ds → AllTrue d (reference_doubts b rs ms ds)
-reference_true d false rs ms ds g h = h
-reference_true d true [] ms ds g h = tt
-reference_true d true (r ∷ rs) [] ds g h = join_true d (r ∷ rs) ds g h
-reference_true d true (r ∷ rs) (m ∷ ms) ds g h = h
+reference_true : (e : Due) (d : Data) (b : Bool) (rs ms ds : Misfits) → (b ≡ true → AllTrueAt e d rs) → (b ≡ false → AllTrueAt e d ds) → (is_fit rs ≡ false → AllTrueAt e d ds) → AllTrueAt e d (reference_doubts b rs ms ds)
+reference_true e d false rs ms ds f g h = g refl
+reference_true e d true [] ms ds f g h = tt
+reference_true e d true (r ∷ rs) [] ds f g h = join_true e d (r ∷ rs) ds (f refl) (h refl)
+reference_true e d true (r ∷ rs) (m ∷ ms) ds f g h = h refl
 
 -- ---- objects
 
-own_true : (ms : Members) (ds : Checks) → DoubtsTrue ms ds → (k : Kind) → AllTrue (object ms) (own_doubts ms (checks ms) ds k)
-own_true ms ds h (map_of k) = entries_true k ms ds h
-own_true ms ds h (ordered_map_of k) = entries_true k ms ds h
-own_true ms ds h (entries_of k) = entries_true k ms (entry_checks ds) (entry_checks_true ms ds h)
-own_true ms ds h (named n) = rows_true (table n) ms ds h
+own_true : (ms : Members) (ds : Checks) → DoubtsTrue ms ds → (k : Kind) → AllTrue k (object ms) (own_doubts ms (checks ms) ds k)
+own_true ms ds h (map_of k) = entries_true (map_of k) k ms ds (all_due (map_of k) k (λ n. refl) ds) h
+own_true ms ds h (ordered_map_of k) = entries_true (ordered_map_of k) k ms ds (all_due (ordered_map_of k) k (λ n. refl) ds) h
+own_true ms ds h (entries_of k) = entries_true (entries_of k) k ms (entry_checks ds) (entries_due k ds) (entry_checks_true ms ds h)
+own_true ms ds h (named n) = table_true n ms ds h
 own_true ms ds h schema = schema_true ms ds h
 own_true ms ds h k = tt
 
-object_true : (ms : Members) (ds : Checks) → DoubtsTrue ms ds → (k : Kind) → AllTrue (object ms) (object_doubts ms (checks ms) ds k)
-object_true ms ds h k =
-    let own = own_doubts ms (checks ms) ds (object_kind k) in
+-- where no reference stands, what an object of the kind is taken as otherwise
+as_object : (k : Kind) (ms : Members) → IsNoReference (object ms) → (j : Kind) → IsTakenAs (object_kind k) (object ms) j → IsTakenAs k (object ms) j
+as_object (ref_or k) ms other j h = inr (inr (other, as_object k ms other j h))
+as_object array_items ms other j h = inr (inr (other, h))
+as_object additional_properties ms other j h = inr (inr (other, h))
+as_object k ms other j h = h
+
+reference_or_true : (k : Kind) (ms : Members) (ds : Checks) → ((j : Kind) → IsTakenAsReference (object ms) j → IsTakenAs k (object ms) j) → DoubtsTrue ms ds
+    → AllTrue k (object ms) (reference_doubts (is_named (codes "$ref") ms) (table_misfits reference_object (checks ms)) (object_misfits ms (checks ms) (object_kind k)) (own_doubts ms (checks ms) ds (object_kind k)))
+unfolding checker
+reference_or_true k ms ds as_reference h =
     let reference = table_misfits reference_object (checks ms) in
-    let otherwise = object_misfits ms (checks ms) (object_kind k) in
-    either_true (object ms) (takes_references k) (reference_doubts (is_named (codes "$ref") ms) reference otherwise own) own
-    (reference_true (object ms) (is_named (codes "$ref") ms) reference otherwise own (table_sound reference_object ms) (own_true ms ds h (object_kind k)))
-    (own_true ms ds h (object_kind k))
+    let own = own_doubts ms (checks ms) ds (object_kind k) in
+    let otherwise : IsNoReference (object ms) → AllTrue k (object ms) own = λ other. as_wider (object_kind k) k (object ms) (as_object k ms other) own (own_true ms ds h (object_kind k)) in
+    reference_true (of_kind k) (object ms) (is_named (codes "$ref") ms) reference (object_misfits ms (checks ms) (object_kind k)) own
+    (λ e. as_wider (named reference_object) k (object ms) (λ j is. as_reference j (is, e)) reference (table_sound reference_object ms))
+    (λ e. otherwise (inl e))
+    (λ e. otherwise (inr (refused (named reference_object) (object ms) e)))
+
+object_true : (ms : Members) (ds : Checks) → DoubtsTrue ms ds → (k : Kind) → AllTrue k (object ms) (object_doubts ms (checks ms) ds k)
+object_true ms ds h (ref_or k) = reference_or_true (ref_or k) ms ds (λ j is. inr (inl is)) h
+object_true ms ds h array_items = reference_or_true array_items ms ds (λ j is. inr (inl is)) h
+object_true ms ds h additional_properties = reference_or_true additional_properties ms ds (λ j is. inr (inl is)) h
+object_true ms ds h k = own_true ms ds h k
 
 mutual
   unfolding doubter
@@ -152,5 +198,5 @@ mutual
   members_sound (member k d ms) = (tree_sound d, members_sound ms)
 
 -- each doubt is true
-pub doubts_sound : (k : Kind) (t : Data) → AllTrue t (doubts k t)
+pub doubts_sound : (k : Kind) (t : Data) → AllTrue k t (doubts k t)
 doubts_sound k t = tree_sound t k

@@ -15,7 +15,7 @@ use Rattle.utoipa_base.specs.Tables.{table, has_extensions}
 use Rattle.utoipa_base.specs.ByName.{by_name}
 use Rattle.utoipa_base.specs.Extensions.{is_extension, extensions_of}
 use Rattle.utoipa_base.specs.Reading.{both, both_entries, or_else, only_if, Part, Parts, part, entry_parts, fits, read_rows, read_table, read_items, read_entries, is_named, read_schema, read_ref_or, read_alternative, read_api_key, read_scheme, read_security_scheme, first_that_fits, read_flow, read_flows, read_null, read_boolean, numeral_doc, read_number, read_word, read_string, read_array, read_object, reader, item_readers, parts, read}
-use Rattle.utoipa_check.specs.Misfits.{Step, at_name, at_index, Cause, unknown_word, fraction, Misfits, here, under, is_fit, expect, unless_fit, Check, Checks, check_at, entry_checks, row_misfits, rows_misfits, table_misfits, items_misfits, entries_misfits, meant_schema, fits_table, fits_schema, schema_misfits, ref_or_misfits, alternative_misfits, chosen_misfits, tagged_misfits, api_key_misfits, scheme_misfits, security_scheme_misfits, flow_misfits, flows_misfits, null_misfits, boolean_misfits, number_misfits, string_misfits, array_misfits, object_misfits, checker, item_checkers, checks, misfits, fractions, items_fractions, members_fractions, misfits_and_fractions}
+use Rattle.utoipa_check.specs.Misfits.{Step, at_name, at_index, Cause, unknown_word, fraction, Misfits, here, under, is_fit, expect, expect_of, unless_fit, Check, Checks, check_at, entry_checks, row_misfits, rows_misfits, table_misfits, items_misfits, entries_misfits, meant_schema, fits_table, fits_schema, schema_misfits, ref_or_misfits, alternative_misfits, chosen_misfits, tagged_misfits, api_key_misfits, scheme_misfits, security_scheme_misfits, flow_misfits, flows_misfits, null_misfits, boolean_misfits, number_misfits, string_misfits, array_misfits, object_misfits, checker, item_checkers, checks, misfits, fractions, items_fractions, members_fractions}
 use Rattle.utoipa_tables.specs.Tables.{flow_kinds}
 
 -- ---- results
@@ -48,7 +48,7 @@ under_fit : (s : Step) (ms : Misfits) → is_fit (under s ms) ≡ is_fit ms
 under_fit s [] = refl
 under_fit s (m ∷ ms) = refl
 
-join_fit : (xs ys : Misfits) → is_fit (xs ++ ys) ≡ is_fit xs && is_fit ys
+pub join_fit : (xs ys : Misfits) → is_fit (xs ++ ys) ≡ is_fit xs && is_fit ys
 join_fit [] ys = refl
 join_fit (x ∷ xs) ys = refl
 
@@ -56,13 +56,17 @@ expect_fit : (b : Bool) (k : Kind) → is_fit (expect b k) ≡ b
 expect_fit true k = refl
 expect_fit false k = refl
 
+expect_of_fit : (b : Bool) (k : Kind) (d : Data) → is_fit (expect_of b k d) ≡ b
+expect_of_fit true k d = refl
+expect_of_fit false k d = refl
+
 pub unless_fit-fit : (b : Bool) (meant : Misfits) (ks : List Kind) → is_fit (unless_fit b meant ks) ≡ b
 unless_fit-fit true meant ks = refl
 unless_fit-fit false [] ks = refl
 unless_fit-fit false (m ∷ ms) ks = refl
 
 -- two tests that are the same, and two more
-and_same : {a b c d : Bool} → a ≡ b → c ≡ d → a && c ≡ b && d
+pub and_same : {a b c d : Bool} → a ≡ b → c ≡ d → a && c ≡ b && d
 and_same {b = b} {c = c} e f = ap (λ x. x && c) e ∙ ap (λ x. b && x) f
 
 or_same : {a b c d : Bool} → a ≡ b → c ≡ d → a || c ≡ b || d
@@ -115,8 +119,8 @@ boolean_agrees b (ref_or k) = boolean_agrees b k ∙ sym (map_some own_doc (read
 boolean_agrees b k = refl
 
 number_agrees : (n : Num) → Agree (number_misfits n) (read_number n)
-number_agrees n whole = expect_fit (is_some (as_u64 n)) whole ∙ sym (map_some whole_doc (as_u64 n))
-number_agrees n numeral = expect_fit (is_some (as_integer n)) numeral ∙ sym (map_some numeral_doc (as_integer n))
+number_agrees n whole = expect_of_fit (is_some (as_u64 n)) whole (number n) ∙ sym (map_some whole_doc (as_u64 n))
+number_agrees n numeral = expect_of_fit (is_some (as_integer n)) numeral (number n) ∙ sym (map_some numeral_doc (as_integer n))
 number_agrees n any = refl
 number_agrees n (ref_or k) = number_agrees n k ∙ sym (map_some own_doc (read_number n k))
 number_agrees n k = refl
@@ -378,7 +382,3 @@ mutual
       join_fit (under (at_name name) (fractions d)) (members_fractions ms)
       ∙ and_same (under_fit (at_name name) (fractions d) ∙ fractions_exact d) (members_fractions_exact ms)
       ∙ sym (not_either (has_float d) (members_have_float ms))
-
--- a tree has no misfit and no fraction exactly where it is plain and reads as a document
-pub misfits_and_fractions_exact : (k : Kind) (t : Data) → is_fit (misfits_and_fractions k t) ≡ is_some (read k t) && not (has_float t)
-misfits_and_fractions_exact k t = join_fit (misfits k t) (fractions t) ∙ and_same (misfits_exact k t) (fractions_exact t)

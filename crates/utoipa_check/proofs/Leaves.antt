@@ -5,14 +5,14 @@ use Rattle.serde_json.specs.Find.{as_str, as_bool, as_number, is_float}
 use Rattle.utoipa_base.specs.Kinds as kinds
 use Rattle.utoipa_tables.specs.declared.kinds.Kind.{Kind, Text, Flag, Any}
 use Rattle.utoipa_tables.specs.Tables.{kind_of}
-use Rattle.utoipa_check.specs.Misfits.{Misfits, here, fraction, fractions, expect, null_fits, boolean_fits, number_fits, null_misfits, boolean_misfits, number_misfits, string_misfits, array_misfits, object_misfits, checker, item_checkers, checks, misfits}
+use Rattle.utoipa_check.specs.Misfits.{Misfits, here, expected, fraction, fractions, mismatch, expect, expect_of, null_fits, boolean_fits, number_fits, null_misfits, boolean_misfits, number_misfits, string_misfits, array_misfits, object_misfits, checker, item_checkers, checks, misfits}
 use Rattle.utoipa_check.specs.Places.{of_kind, no_fraction, item_kind, item_target, array_places, inner_places, outcomes, joined, items_at, members_at}
 use Rattle.utoipa_check.proofs.Joined.{item_fractions_joined, member_fractions_joined}
 use Rattle.utoipa_check.specs.Views.{own_kind, is_plain_kind}
 
 -- ---- plain kinds
 
-pub text_fits : (d : Data) → misfits kinds.text d ≡ expect (is_some (as_str d)) kinds.text
+pub text_fits : (d : Data) → misfits kinds.text d ≡ expect_of (is_some (as_str d)) kinds.text d
 unfolding checker
 text_fits null = refl
 text_fits (boolean b) = refl
@@ -21,7 +21,7 @@ text_fits (string s) = refl
 text_fits (array ds) = refl
 text_fits (object ms) = refl
 
-pub flag_fits : (d : Data) → misfits kinds.flag d ≡ expect (is_some (as_bool d)) kinds.flag
+pub flag_fits : (d : Data) → misfits kinds.flag d ≡ expect_of (is_some (as_bool d)) kinds.flag d
 unfolding checker
 flag_fits null = refl
 flag_fits (boolean b) = refl
@@ -56,7 +56,7 @@ pub boolean_own : (b : Bool) (k : kinds.Kind) → boolean_misfits b k ≡ expect
 boolean_own b (kinds.ref_or k) = boolean_own b k
 boolean_own b k = refl
 
-pub number_own : (n : Num) (k : kinds.Kind) → number_misfits n k ≡ expect (number_fits n (own_kind k)) (own_kind k)
+pub number_own : (n : Num) (k : kinds.Kind) → number_misfits n k ≡ expect_of (number_fits n (own_kind k)) (own_kind k) (number n)
 number_own n (kinds.ref_or k) = number_own n k
 number_own n k = refl
 
@@ -82,9 +82,9 @@ pub of_boolean : (k own : kinds.Kind) (d : Data) (b : Bool) → boolean b ≡ d 
 unfolding checker
 of_boolean k own d b sort is = ap (λ t. misfits k t) (sym sort) ∙ boolean_own b k ∙ ap (λ l. expect (boolean_fits b l) l) (sym is)
 
-pub of_number : (k own : kinds.Kind) (d : Data) (n : Num) → number n ≡ d → own ≡ own_kind k → misfits k d ≡ expect (number_fits n own) own
+pub of_number : (k own : kinds.Kind) (d : Data) (n : Num) → number n ≡ d → own ≡ own_kind k → misfits k d ≡ expect_of (number_fits n own) own d
 unfolding checker
-of_number k own d n sort is = ap (λ t. misfits k t) (sym sort) ∙ number_own n k ∙ ap (λ l. expect (number_fits n l) l) (sym is)
+of_number k own d n sort is = ap (λ t. misfits k t) (sym sort) ∙ number_own n k ∙ ap (λ l. expect_of (number_fits n l) l (number n)) (sym is) ∙ ap (λ t. expect_of (number_fits n own) own t) sort
 
 pub of_string : (k own : kinds.Kind) (d : Data) (s : List ℕ) → string s ≡ d → own ≡ own_kind k → misfits k d ≡ string_misfits s own
 unfolding checker
@@ -107,6 +107,23 @@ of_object k d ms sort = ap (λ t. misfits k t) (sym sort) ∙ ap (λ t. object_m
 
 abbrev is_fraction : Data → Bool
 is_fraction d = unwrap_or (option_map is_float (as_number d)) false
+
+-- why a tree does not fit, by whether it is a fraction
+pub mismatch_fraction : (k : kinds.Kind) (d : Data) → is_fraction d ≡ true → mismatch k d ≡ fraction
+mismatch_fraction k null e = absurd (true≢false (sym e))
+mismatch_fraction k (boolean b) e = absurd (true≢false (sym e))
+mismatch_fraction k (number n) e = ap (λ b. cond b fraction (expected k)) e
+mismatch_fraction k (string s) e = absurd (true≢false (sym e))
+mismatch_fraction k (array ds) e = absurd (true≢false (sym e))
+mismatch_fraction k (object ms) e = absurd (true≢false (sym e))
+
+pub mismatch_expected : (k : kinds.Kind) (d : Data) → is_fraction d ≡ false → mismatch k d ≡ expected k
+mismatch_expected k null e = refl
+mismatch_expected k (boolean b) e = refl
+mismatch_expected k (number n) e = ap (λ b. cond b fraction (expected k)) e
+mismatch_expected k (string s) e = refl
+mismatch_expected k (array ds) e = refl
+mismatch_expected k (object ms) e = refl
 
 pub fraction_here : (d : Data) → is_fraction d ≡ true → fractions d ≡ here fraction
 unfolding fractions

@@ -1,4 +1,5 @@
 pub mod Exact
+pub mod Trues
 pub mod Sound
 pub mod Pieces
 pub mod Versions

@@ -32,7 +32,7 @@ pub data Cause : Type 0 where
   unknown_word : List (List ℕ) → Cause
   -- a tree that is of none of these kinds
   no_alternative : List Kind → Cause
-  -- a number that is neither an i64 nor a u64, which no document holds
+  -- a number that is neither an i64 nor a u64, which no document holds, whatever its place expects
   fraction : Cause
 
 -- a place, as the steps that lead to it, and the cause
@@ -56,9 +56,22 @@ abbrev pub is_fit : Misfits → Bool
 is_fit [] = true
 is_fit (m ∷ ms) = false
 
+-- why a tree of another sort does not fit: a fraction is told as one, and of any other tree the kind that is expected
+abbrev pub mismatch : Kind → Data → Cause
+mismatch k null = expected k
+mismatch k (boolean b) = expected k
+mismatch k (number n) = if is_float n then fraction else expected k
+mismatch k (string s) = expected k
+mismatch k (array ds) = expected k
+mismatch k (object ms) = expected k
+
 abbrev pub expect : Bool → Kind → Misfits
 expect true k = []
 expect false k = here (expected k)
+
+abbrev pub expect_of : Bool → Kind → Data → Misfits
+expect_of true k d = []
+expect_of false k d = here (mismatch k d)
 
 abbrev pub expect_word : List (List ℕ) → List ℕ → Misfits
 expect_word ws s = if list_any (bytes_eq s) ws then [] else here (unknown_word ws)
@@ -178,7 +191,7 @@ abbrev pub tagged_misfits : List ℕ → List (List ℕ × Kind) → (Kind → M
 tagged_misfits name choices f None = here (absent name)
 tagged_misfits name choices f (Some null) = under (at_name name) (here (expected text))
 tagged_misfits name choices f (Some (boolean b)) = under (at_name name) (here (expected text))
-tagged_misfits name choices f (Some (number n)) = under (at_name name) (here (expected text))
+tagged_misfits name choices f (Some (number n)) = under (at_name name) (here (mismatch text (number n)))
 tagged_misfits name choices f (Some (string s)) = chosen_misfits name choices f (chosen s choices)
 tagged_misfits name choices f (Some (array ds)) = under (at_name name) (here (expected text))
 tagged_misfits name choices f (Some (object ms)) = under (at_name name) (here (expected text))
@@ -233,7 +246,7 @@ boolean_misfits b k = expect (boolean_fits b k) k
 
 abbrev pub number_misfits : Num → Kind → Misfits
 number_misfits n (ref_or k) = number_misfits n k
-number_misfits n k = expect (number_fits n k) k
+number_misfits n k = expect_of (number_fits n k) k (number n)
 
 abbrev pub string_misfits : List ℕ → Kind → Misfits
 string_misfits s text = []
@@ -308,6 +321,19 @@ unfoldable mutual
   members_fractions no_members = []
   members_fractions (member name d ms) = under (at_name name) (fractions d) ++ members_fractions ms
 
--- why a tree is refused as a document of a kind: the places that do not fit, and then the fractions
+abbrev pub is_fraction : Cause → Bool
+is_fraction (absent name) = false
+is_fraction (expected k) = false
+is_fraction (unknown_word ws) = false
+is_fraction (no_alternative ks) = false
+is_fraction fraction = true
+
+-- misfits without the fractions among them
+abbrev pub without_fractions : Misfits → Misfits
+without_fractions [] = []
+without_fractions (m ∷ ms) = if is_fraction m.1 then without_fractions ms else m ∷ without_fractions ms
+
+-- why a tree is refused as a document of a kind: the places that do not fit, and then the fractions. A fraction where another tree is expected is
+-- told once, as a fraction.
 abbrev pub misfits_and_fractions : Kind → Data → Misfits
-misfits_and_fractions k d = misfits k d ++ fractions d
+misfits_and_fractions k d = without_fractions (misfits k d) ++ fractions d

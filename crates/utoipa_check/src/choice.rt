@@ -10,6 +10,7 @@ ghost use Rattle.utoipa_check.specs.Places.{chosen_at, members_at};
 ghost use Rattle.utoipa_check.specs.Views.{after_choice, chosen_kind};
 ghost use Rattle.utoipa_tables.specs.Tables.{kind_of, choices_of, words_of_choices};
 
+use crate::leaf::mismatch;
 use crate::misfit::{Cause, Misfit, Step, here, under};
 use serde_json::Value;
 use std::alloc::{AllocError, Global};
@@ -67,7 +68,7 @@ pub(crate) fn choose<'a>(
         return Ok(Choosing::Nothing(here(alloc, Cause::Absent(name))?));
     };
     let Some(word) = member.as_str() else {
-        let found = here(alloc, Cause::Expected(Kind::Text))?;
+        let found = here(alloc, mismatch(Kind::Text, member))?;
         return Ok(Choosing::Nothing(under(alloc, Step::Name(name), found)?));
     };
     match chosen(word, choices) {

@@ -57,7 +57,7 @@ fn end_doubts<'a>(
 /// Each place is looked at once, and no misfit is copied more than twice.
 pub fn doubts<'a>(alloc: Global, kind: Kind, tree: &'a Value) -> Result<Vec<Misfit<'a>>, AllocError>
     ensures exact { IfOk result (λ v. misfits_of v.items ≡ specs.doubts (kind_of kind) (view tree.now)) }
-    ensures sound { IfOk result (λ v. AllTrue (view tree.now) (misfits_of v.items)) }
+    ensures sound { IfOk result (λ v. AllTrue (kind_of kind) (view tree.now) (misfits_of v.items)) }
 {
     let mut outcomes = Vec::new(alloc);
     let mut found = Vec::new(alloc);

@@ -5,7 +5,7 @@ ghost use Rattle.std.specs.List.{list_any};
 ghost use Rattle.serde_json.specs.View.{view, number_view};
 ghost use Rattle.utoipa_base.specs.Rows.{texts};
 ghost use Rattle.utoipa_check.specs.Misfits as specs;
-ghost use Rattle.utoipa_check.specs.Views.{misfits_of, is_reference, own_kind, is_plain_kind};
+ghost use Rattle.utoipa_check.specs.Views.{cause_of, misfits_of, is_reference, own_kind, is_plain_kind};
 ghost use Rattle.utoipa_tables.specs.Tables.{kind_of};
 
 use crate::misfit::{Cause, Misfit, here};
@@ -88,6 +88,32 @@ pub(crate) fn is_one_of(text: &str, words: &[&str]) -> bool
     false
 }
 
+/// Why a tree of another sort does not fit: a fraction is told as one, and of any other tree the kind that is expected.
+pub(crate) fn mismatch(kind: Kind, tree: &Value) -> Cause
+    ensures { cause_of result ≡ specs.mismatch (kind_of kind) (view tree.now) }
+{
+    if tree.is_f64() {
+        Cause::Fraction
+    } else {
+        Cause::Expected(kind)
+    }
+}
+
+/// No misfit where a tree fits, else why it does not. Fails where memory runs out.
+pub(crate) fn expect_of<'a>(
+    alloc: Global,
+    fits: bool,
+    kind: Kind,
+    tree: &Value,
+) -> Result<Vec<Misfit<'a>>, AllocError>
+    ensures { IfOk result (λ v. misfits_of v.items ≡ specs.expect_of fits (kind_of kind) (view tree.now)) }
+{
+    if fits {
+        return Ok(Vec::new(alloc));
+    }
+    here(alloc, mismatch(kind, tree))
+}
+
 /// No misfit where a text is one of some words. Fails where memory runs out.
 pub(crate) fn expect_word<'a>(
     alloc: Global,
@@ -129,13 +155,13 @@ pub(crate) fn plain_misfits<'a>(
     requires { is_plain_kind (kind_of kind) ≡ true }
     ensures { IfOk result (λ v. misfits_of v.items ≡ specs.misfits (kind_of kind) (view tree.now)) }
 {
-    expect(alloc, fits_plain(kind, tree), kind)
+    expect_of(alloc, fits_plain(kind, tree), kind, tree)
 }
 
 /// Whether a tree is a text, a flag or anything, whichever is expected.
 fn fits_plain(kind: Kind, tree: &Value) -> bool
     requires { is_plain_kind (kind_of kind) ≡ true }
-    ensures { specs.misfits (kind_of kind) (view tree.now) ≡ specs.expect result (kind_of kind) }
+    ensures { specs.misfits (kind_of kind) (view tree.now) ≡ specs.expect_of result (kind_of kind) (view tree.now) }
 {
     match kind {
         Kind::Text => tree.is_string(),

@@ -45,4 +45,4 @@ pub use dropped::{Dropped, Loss, dropped_between, dropped_by};
 pub use located::{FaultPlace, LocatedFault, from_json_located, from_value_located};
 pub use misfit::{Cause, Misfit, Pointer, Step};
 pub use referring::{State, Way};
-pub use report::{Report, misfits};
+pub use report::{Report, misfits, without_fractions};

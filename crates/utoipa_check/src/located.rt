@@ -6,13 +6,16 @@
 //!
 //! The place is sought by a kind, which a caller gives as a value. It is to be that of the type; by another kind the document is read all
 //! the same, and a place is told that does not fit that kind, if there is one.
-ghost use Rattle.std.specs.Prelude.{◌≡◌, ◌⊎◌, None, Some, IfOk, IfErr};
+ghost use Rattle.std.specs.Prelude.{◌≡◌, None, Some, IfOk, IfErr, true};
+ghost use Rattle.serde_json.specs.Data.{Data};
 ghost use Rattle.serde_json.specs.Read.{read as read_text};
 ghost use Rattle.serde_json.specs.View.{view};
+ghost use Rattle.utoipa_base.specs.Kinds as kinds;
 ghost use Rattle.utoipa_base.specs.WellFormed.{ReadsAs};
 ghost use Rattle.utoipa_check.specs.Located as specs;
+ghost use Rattle.utoipa_check.specs.Misfits.{Misfits};
 ghost use Rattle.utoipa_check.specs.Places.{found};
-ghost use Rattle.utoipa_check.specs.Views.{target_of};
+ghost use Rattle.utoipa_check.specs.Views.{cause_of, target_of};
 ghost use Rattle.utoipa_tables.specs.Tables.{kind_of};
 
 use crate::layout::Target;
@@ -47,7 +50,7 @@ pub enum FaultPlace {
 /// Why a text was refused as a document, and where.
 #[derive(Drop)]
 pub struct LocatedFault {
-    /// Why, as [`Tree::from_value`] tells it; `Text` where the text is no JSON.
+    /// Why: as the cause at the place says it, and as [`Tree::from_value`] does where no place is told. `Text` where the text is no JSON.
     pub fault: ReadFault,
     /// Where. None where memory ran out, and where a tree that is no document of the type fits the kind by which the place was sought.
     pub place: Option<FaultPlace>,
@@ -100,13 +103,77 @@ fn place_of(
     }
 }
 
+/// What was wanted where another sort of tree stands, in a word.
+fn wanted(kind: Kind) -> &'static str
+    ensures { result.now ≡ specs.wanted (kind_of kind) }
+{
+    match kind {
+        Kind::Text | Kind::WordOf(_) | Kind::SchemaFormat => "text",
+        Kind::Flag => "bool",
+        Kind::Whole | Kind::Numeral => "whole number",
+        Kind::Any => "tree",
+        Kind::Version => "version",
+        Kind::ListOf(_) => "list",
+        Kind::MapOf(_) | Kind::OrderedMapOf(_) | Kind::EntriesOf(_) | Kind::Flows => "map",
+        Kind::RefOr(own) => wanted(*own),
+        Kind::Named(_) => "object",
+        Kind::Schema | Kind::ArrayItems | Kind::AdditionalProperties => "schema",
+        Kind::SchemaType => "schema type",
+        Kind::SecurityScheme | Kind::ApiKey => "security scheme",
+    }
+}
+
+/// The fault that says a cause. A tree that is refused for another fault has no fraction: for that cause the fault stays.
+fn saying(cause: Cause, fault: ReadFault) -> ReadFault
+    ensures says { specs.Says (cause_of cause) result }
+    ensures of_misfit { specs.is_of_misfit fault ≡ true → specs.is_of_misfit result ≡ true }
+{
+    match cause {
+        Cause::Absent(name) => ReadFault::Missing(name),
+        Cause::Expected(kind) => ReadFault::Kind(wanted(kind)),
+        Cause::UnknownWord(_) => ReadFault::Word("those that may stand here"),
+        Cause::NoAlternative(_) => ReadFault::Alternative,
+        Cause::Fraction => fault,
+    }
+}
+
+/// The fault of a tree that does not fit: the one that says the cause at its first place, and the reader's own where no place is told.
+fn fault_at(place: &Option<FaultPlace>, fault: ReadFault) -> ReadFault
+    ensures says { (ms : Misfits) → specs.IsFirst ms place.now → specs.SaysFirst ms result }
+    ensures of_misfit { specs.is_of_misfit fault ≡ true → specs.is_of_misfit result ≡ true }
+{
+    match place {
+        Some(FaultPlace::InTree { cause, .. }) => saying(*cause, fault),
+        Some(FaultPlace::InText { .. }) => fault,
+        None => fault,
+    }
+}
+
+/// The fault of reading a tree, by the first place that is told. The fault of memory and that of a fraction stay.
+fn fault_told(place: &Option<FaultPlace>, fault: ReadFault) -> ReadFault
+    ensures refused { (k : kinds.Kind) → (t : Data) → specs.RefusesTree k t fault → specs.RefusesTree k t result }
+    ensures place { (k : kinds.Kind) → (t : Data) → specs.IsPlaceOf k t fault place.now → specs.IsPlaceOf k t result place.now }
+    ensures says { (k : kinds.Kind) → (t : Data) → specs.IsPlaceOf k t fault place.now → specs.IsFaultOf k t result }
+{
+    match fault {
+        ReadFault::Memory => ReadFault::Memory,
+        ReadFault::Fraction => ReadFault::Fraction,
+        ReadFault::Text => ReadFault::Text,
+        _ => fault_at(place, fault),
+    }
+}
+
 /// A fault of reading a tree, with its place.
 fn located(alloc: Global, kind: Kind, tree: &Value, fault: ReadFault) -> LocatedFault
-    ensures fault { (result.fault ≡ fault) ⊎ (result.fault ≡ ReadFault.Memory) }
+    ensures refused { (k : kinds.Kind) → specs.RefusesTree k (view tree.now) fault → specs.RefusesTree k (view tree.now) result.fault }
     ensures place { specs.IsPlaceOf (kind_of kind) (view tree.now) result.fault result.place }
+    ensures says { specs.IsFaultOf (kind_of kind) (view tree.now) result.fault }
 {
     match place_of(alloc, kind, tree, &fault) {
-        Ok(place) => LocatedFault { fault, place },
+        Ok(place) => {
+            let fault = fault_told(&place, fault);
+            LocatedFault { fault, place }
+        }
         Err(_) => out_of_memory(),
     }
 }
@@ -134,8 +201,10 @@ fn tree_of(alloc: Global, text: &str) -> Result<Value, LocatedFault>
 
 /// The document of a tree, as [`Tree::from_value`] reads it.
 ///
-/// Fails where that does, with the same fault and with its place in the tree: of `Fraction` the first fraction, and of all other faults but
-/// `Memory` the first place that does not fit the kind. The kind is to be that of the type; then a place is told of every such fault.
+/// Fails where that does, with a place in the tree. A tree with a fraction is refused with `Fraction`, at the first one. Another tree is
+/// refused at the first place that does not fit the kind, with the fault that says the cause there: `Missing` of an absent member, `Kind` of
+/// another sort of tree, `Word` of an unknown word, `Alternative` where no alternative fits. The reader may have met another fault first.
+/// The kind is to be that of the type. By another kind the tree may fit; then the fault is the reader's own, and no place is told.
 /// Fails with `Memory`, and without a place, also where memory runs out while the place is sought.
 pub fn from_value_located<T: Tree>(
     alloc: Global,
@@ -145,6 +214,7 @@ pub fn from_value_located<T: Tree>(
     ensures ok { IfOk result (λ document. ReadsAs T.kind (view tree.now) (T.doc document)) }
     ensures err { IfErr result (λ e. specs.RefusesTree T.kind (view tree.now) e.fault) }
     ensures place { IfErr result (λ e. specs.IsPlaceOf (kind_of kind) (view tree.now) e.fault e.place) }
+    ensures says { IfErr result (λ e. specs.IsFaultOf (kind_of kind) (view tree.now) e.fault) }
     ensures told { IfErr result (λ e. kind_of kind ≡ T.kind → e.place ≡ None → e.fault ≡ ReadFault.Memory) }
 {
     match T::from_value(alloc, tree) {
@@ -161,6 +231,7 @@ pub fn from_json_located<T: Tree>(alloc: Global, kind: Kind, text: &str) -> Resu
     ensures ok { IfOk result (λ document. specs.IsTextOf T.kind (T.doc document) text.now) }
     ensures err { IfErr result (λ e. specs.RefusesText T.kind (read_text text.now) e.fault) }
     ensures place { IfErr result (λ e. specs.IsPlaceOfText (kind_of kind) (read_text text.now) e.fault e.place) }
+    ensures says { IfErr result (λ e. specs.IsFaultOfText (kind_of kind) (read_text text.now) e.fault) }
     ensures told { IfErr result (λ e. kind_of kind ≡ T.kind → e.place ≡ None → e.fault ≡ ReadFault.Memory) }
 {
     let tree = tree_of(alloc, text)?;

@@ -7,7 +7,9 @@ ghost use Rattle.utoipa_check.specs.Views.{misfits_of, stacked, target_of, is_re
 ghost use Rattle.utoipa_tables.specs.Tables.{kind_of};
 
 use crate::layout::Target;
-use crate::leaf::{boolean_fits, expect, null_fits, number_fits, own_kind, text_misfits};
+use crate::leaf::{
+    boolean_fits, expect, expect_of, null_fits, number_fits, own_kind, text_misfits,
+};
 use crate::misfit::{Cause, Misfit, Outcome, here, join_all};
 use crate::object::object_misfits;
 use crate::schema::any_flow_misfits;
@@ -50,7 +52,7 @@ fn document_misfits<'a>(
     match tree {
         Value::Null => expect(alloc, null_fits(own), own),
         Value::Bool(flag) => expect(alloc, boolean_fits(*flag, own), own),
-        Value::Number(number) => expect(alloc, number_fits(number, own), own),
+        Value::Number(number) => expect_of(alloc, number_fits(number, own), own, tree),
         Value::String(text) => text_misfits(alloc, own, text.as_str()),
         Value::Array(_) => array_misfits(alloc, own, tree, inner),
         Value::Object(_) => object_misfits(alloc, kind, tree, inner),

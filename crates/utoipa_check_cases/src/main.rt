@@ -6,7 +6,6 @@
 //! |---|---|---|
 //! | `misfits TYPE` | a JSON text | the places that do not fit the type, each with the cause, ` ; ` between two; `none` where all fits |
 //! | `places TYPE` | a JSON text | the places alone |
-//! | `visits TYPE` | a JSON text | how many places were looked at |
 //! | `doubts TYPE` | a JSON text | the places that do not fit what was meant there, where something else is read |
 //! | `references TYPE` | a JSON text | the places where a document of the type refers, each with its text and what has become of it |
 //! | `located TYPE` | a JSON text | `read` where the text is a document of the type, else the fault with its place |
@@ -81,10 +80,6 @@ fn answer_of_tree(
         "references" => told(alloc, &references(alloc, kind, tree)?),
         "misfits" => told(alloc, &misfits(alloc, kind, tree)?.misfits),
         "places" => places(alloc, misfits(alloc, kind, tree)?),
-        "visits" => {
-            let visits = misfits(alloc, kind, tree)?.visits;
-            format!(in alloc; "{visits}")
-        }
         _ => String::from_str(alloc, "no such call"),
     }
 }

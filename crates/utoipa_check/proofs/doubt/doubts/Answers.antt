@@ -67,4 +67,4 @@ pub returns-in-Some-pop-clause-exact : goal.returns-in-Some-pop-clause-exact
 returns-in-Some-pop-clause-exact c = grind (arith, common_steps)
 
 pub returns-in-Some-pop-clause-sound : goal.returns-in-Some-pop-clause-sound
-returns-in-Some-pop-clause-sound c = subst (AllTrue (view c.args.tree.now)) (sym (returns-in-Some-pop-clause-exact c)) (doubts_sound (kind_of c.args.kind) (view c.args.tree.now))
+returns-in-Some-pop-clause-sound c = subst (AllTrue (kind_of c.args.kind) (view c.args.tree.now)) (sym (returns-in-Some-pop-clause-exact c)) (doubts_sound (kind_of c.args.kind) (view c.args.tree.now))

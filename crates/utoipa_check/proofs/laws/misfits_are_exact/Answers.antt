@@ -1,6 +1,6 @@
 use Rattle.serde_json.specs.View.{view}
-use Rattle.utoipa_check.proofs.Exact.{misfits_exact, misfits_and_fractions_exact}
-use Rattle.utoipa_check.proofs.Sound.{misfits_sound, misfits_and_fractions_sound}
+use Rattle.utoipa_check.proofs.Exact.{misfits_exact}
+use Rattle.utoipa_check.proofs.Sound.{misfits_sound, misfits_and_fractions_exact, misfits_and_fractions_sound}
 use Rattle.utoipa_check.proofs.laws.misfits_are_exact.Goals as goal
 
 pub returns-clause-exact : goal.returns-clause-exact

@@ -23,8 +23,8 @@ returns-in-Bool c =
 pub returns-in-Number : goal.returns-in-Number
 returns-in-Number c =
     let seen : value.number (number_view c.in-Number.number) ≡ view c.args.tree.now = rw c.in-Number.is (search (rules, the_lemmas)) in
-    subst (λ x. IfOk c.expect-in-Number.result (λ v. misfits_of v.items ≡ x)) (ap (λ b. specs.expect b (kind_of c.own_kind-own.result)) c.number_fits.ensures ∙ sym (of_number (kind_of c.args.kind) _ _ _ seen c.own_kind-own.ensures.own))
-    c.expect-in-Number.ensures
+    subst (λ x. IfOk c.expect_of.result (λ v. misfits_of v.items ≡ x)) (ap (λ b. specs.expect_of b (kind_of c.own_kind-own.result) (view c.args.tree.now)) c.number_fits.ensures ∙ sym (of_number (kind_of c.args.kind) _ _ _ seen c.own_kind-own.ensures.own))
+    c.expect_of.ensures
 
 pub returns-in-String : goal.returns-in-String
 returns-in-String c =
