@@ -4,6 +4,7 @@ ghost use Rattle.std.specs.Str.{IsUtf8};
 ghost use Rattle.serde_json.specs.Data.{depth};
 ghost use Rattle.serde_json.specs.Read.{read as read_text, max_depth};
 ghost use Rattle.serde_json.specs.Written.{has_float, compact_text};
+ghost use Rattle.utoipa_base.specs.Printed.{IsJsonOf};
 ghost use Rattle.utoipa_base.specs.Texts.{IsTextOf, RefusesText};
 ghost use Rattle.utoipa_base.specs.Writing.{write};
 ghost use Rattle.utoipa.specs.Texts.{pretty_text};
@@ -42,10 +43,12 @@ pub fn from_slice<T: Tree>(alloc: Global, bytes: &[u8]) -> Result<T, ReadFault>
 
 /// The value as JSON in compact form, the members of each object in the order of their names.
 ///
-/// Of a value that holds a fraction, which is never read, the text of the fraction is not defined. Fails where memory runs out.
+/// The text is read as the tree that the value is written as, with its fractions, where this nests no deeper than a text may. A whole
+/// number has its digits there. Which text a fraction has is not defined. Fails where memory runs out.
 pub fn to_json<T: Tree>(alloc: Global, value: &T) -> Result<String, AllocError>
-    ensures { IfOk result (λ text. has_float (write (T.doc value.now)) ≡ false
+    ensures text { IfOk result (λ text. has_float (write (T.doc value.now)) ≡ false
         → string_bytes text ≡ compact_text (write (T.doc value.now))) }
+    ensures json { IfOk result (λ text. IsJsonOf (write (T.doc value.now)) (string_bytes text)) }
 {
     let mut out = Writer::new(Vec::with_capacity(alloc, 128)?);
     value.emit(&mut out)?;
@@ -56,7 +59,8 @@ pub fn to_json<T: Tree>(alloc: Global, value: &T) -> Result<String, AllocError>
 /// The value as JSON with a line for each item and member, two spaces deeper for each bracket round them, and the members of each
 /// object in the order of their names.
 ///
-/// Of a value that holds a fraction, which is never read, the text of the fraction is not defined. Fails where memory runs out.
+/// The text is read as the tree that the value is written as, with its fractions, where this nests no deeper than a text may. Which
+/// text a fraction has is not defined. Fails where memory runs out.
 pub fn to_pretty_json<T: Tree>(alloc: Global, value: &T) -> Result<String, AllocError>
     ensures text { IfOk result (λ text. has_float (write (T.doc value.now)) ≡ false
         → string_bytes text ≡ pretty_text (write (T.doc value.now))) }

@@ -4,6 +4,7 @@ ghost use Rattle.serde_json.specs.Data.{depth};
 ghost use Rattle.serde_json.specs.Read.{read as read_text, max_depth};
 ghost use Rattle.serde_json.specs.Written.{has_float, compact_text};
 ghost use Rattle.utoipa_base.specs.Kinds.{named, open_api_object};
+ghost use Rattle.utoipa_base.specs.Printed.{IsJsonOf};
 ghost use Rattle.utoipa_base.specs.Texts.{RefusesText};
 ghost use Rattle.utoipa_base.specs.Writing.{write};
 ghost use Rattle.utoipa_merging.specs.Texts.{IsTextOf};
@@ -31,10 +32,12 @@ impl OpenApi {
 
     /// The document as JSON in compact form, the members of each object in the order of their names.
     ///
-    /// Of a document that holds a fraction, which is never read, the text of the fraction is not defined. Fails where memory runs out.
+    /// The text is read as the tree that the document is written as, with its fractions, where this nests no deeper than a text may.
+    /// A whole number has its digits there. Which text a fraction has is not defined. Fails where memory runs out.
     pub fn to_json(&self, alloc: Global) -> Result<String, AllocError>
-        ensures { IfOk result (λ text. has_float (write (openapi_doc self.now)) ≡ false
+        ensures text { IfOk result (λ text. has_float (write (openapi_doc self.now)) ≡ false
             → string_bytes text ≡ compact_text (write (openapi_doc self.now))) }
+        ensures json { IfOk result (λ text. IsJsonOf (write (openapi_doc self.now)) (string_bytes text)) }
     {
         to_json(alloc, self)
     }
@@ -42,7 +45,8 @@ impl OpenApi {
     /// The document as JSON with a line for each item and member, two spaces deeper for each bracket round them, and the members of
     /// each object in the order of their names.
     ///
-    /// Of a document that holds a fraction, which is never read, the text of the fraction is not defined. Fails where memory runs out.
+    /// The text is read as the tree that the document is written as, with its fractions, where this nests no deeper than a text may.
+    /// Which text a fraction has is not defined. Fails where memory runs out.
     pub fn to_pretty_json(&self, alloc: Global) -> Result<String, AllocError>
         ensures text { IfOk result (λ text. has_float (write (openapi_doc self.now)) ≡ false
             → string_bytes text ≡ pretty_text (write (openapi_doc self.now))) }
