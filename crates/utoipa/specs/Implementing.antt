@@ -1,13 +1,14 @@
 -- What a program names that implements the traits of this library: documents, the schemas that types are composed to, operations, responses,
 -- parameters and tags. Here stand the words of the crates below too, so that the contracts of such a program name this crate alone. The program's
 -- line of crates.txt names the crates below too.
-use Rattle.std.proofs.Common.{ap}
-use Rattle.std.specs.Prelude.{◌≡◌, codes}
 -- documents: values as contracts see them
 pub use Rattle.utoipa_base.specs.Docs.{Doc, text_doc, flag_doc, whole_doc, int_doc, uint_doc, tree_doc, word_doc, none_doc, some_doc, option_doc, ref_doc, own_doc, list_doc, map_doc, docs_of, entries_of_list}
 pub use Rattle.utoipa_base.specs.Views.{text_of, tree_of, option_of, list_of_docs, map_of_docs, pairs_of}
 -- what stands in one: the field of a member, through one that may be absent; items, entries, the entry of a name
 pub use Rattle.utoipa_merging.specs.Slots.{field_at, in_field, items_in, entries_in, entry_at, paths_of, components_of}
+-- which field of a type stands there. One line of a theorem, as what an operation's summary is: `field_is (codes "summary") (operation_doc o)
+-- (operation_members o)`. The theorems of all types are in the page `Members`
+pub use Rattle.utoipa.specs.Members.{field_is, member_at, operation_members, path_item_members, parameter_members, response_members, info_members, tag_members, object_members, openapi_members}
 -- schemas: those of the language's types, and what ComposeSchema, PartialSchema and ToSchema say of one
 pub use Rattle.utoipa_compose.specs.Made.{int32, int64, signed, unsigned32, unsigned64, unsigned, boolean, text, anything, nothing, typed, integer, format_of, nullable, listed, unique, mapped, one_of, struct_of}
 pub use Rattle.utoipa_compose.specs.Compositions.{place_doc, place_docs, Named, AreAppended, Composition, always, part, same_as, option_composed, list_composed, set_composed, map_composed}
@@ -32,17 +33,3 @@ pub use Rattle.utoipa_base.specs.References.{schema_location, response_location}
 -- whole documents, and tags: what OpenApi, Tags, PathConfig and NestedApiConfig say of them
 pub use Rattle.utoipa.specs.OpenApi.{openapi_doc}
 pub use Rattle.utoipa.specs.Tags.{texts_of}
-
--- ---- what an operation says, by its fields
-
--- its name
-pub operation_id_is : (o : Operation) → field_at (codes "operationId") (operation_doc o) ≡ option_of text_of (out-Operation o).operation_id
-operation_id_is o = ap (field_at (codes "operationId")) (operation_is o)
-
--- what it does, in short
-pub summary_is : (o : Operation) → field_at (codes "summary") (operation_doc o) ≡ option_of text_of (out-Operation o).summary
-summary_is o = ap (field_at (codes "summary")) (operation_is o)
-
--- the names of its tags
-pub operation_tags_are : (o : Operation) → field_at (codes "tags") (operation_doc o) ≡ option_of (list_of_docs text_of) (out-Operation o).tags
-operation_tags_are o = ap (field_at (codes "tags")) (operation_is o)

@@ -5,6 +5,7 @@ pub mod Operations
 pub mod Texts
 pub mod Tags
 pub mod MainTheorem
+pub mod Members
 pub mod OwnSchemas
 pub mod Implementing
 pub mod Documents

@@ -1,3 +1,4 @@
 pub mod Components
 pub mod Filled
 pub mod Resolve
+pub mod Members

@@ -6,3 +6,4 @@ pub mod Parts
 pub mod Builders
 pub mod Fill
 pub mod Link
+pub mod Members

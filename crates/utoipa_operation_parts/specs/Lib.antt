@@ -5,3 +5,4 @@ pub mod Responses
 pub mod Parameter
 pub mod Traits
 pub mod Described
+pub mod Members

@@ -9,3 +9,4 @@ pub mod OfKind
 pub mod Operations
 pub mod Parts
 pub mod PathItem
+pub mod Members

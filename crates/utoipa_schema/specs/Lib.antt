@@ -3,6 +3,7 @@ pub mod Choice
 pub mod Docs
 pub mod Folds
 pub mod Layers
+pub mod Members
 pub mod OfKind
 pub mod Outcomes
 pub mod Parts

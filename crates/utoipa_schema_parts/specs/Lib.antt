@@ -1,4 +1,5 @@
 pub mod Discriminator
 pub mod Format
+pub mod Members
 pub mod Types
 pub mod Xml
