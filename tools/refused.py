@@ -7,8 +7,8 @@ usage: tools/refused.py CRATE [EDIT..]     each EDIT a file of crates/CRATE/wron
        tools/refused.py --apply            tries nothing: tells of each edit of each crate whether its lines stand in the source
 
 An edit is written as those that `rt ci` tries. It is one wrong body, refused where the prover refuses a function that it
-changes, or, where it changes the text of a type, any function. One called each_.. changes many functions, each line of it
-wherever it stands, and is a wrong body of each function.
+changes, or, where it changes the text of a type or a definition, any function or any theorem of specs/. One called each_..
+changes many functions, each line of it wherever it stands, and is a wrong body of each function.
 
 A round checks a copy of the crate with as many bodies as go together: no two of a function. Each function that none of
 them changes is taken by its contract alone (by_contract.py), so no crate has to be proved before. A body is refused where a goal of its function is not
@@ -174,6 +174,11 @@ def goals_not_proved(crate, cycles, said):
     return found
 
 
+def theorems_refused(said):
+    """The theorems of the crate's specs/ that are refused, each with how that is told."""
+    return dict.fromkeys(re.findall(r"^(?:\./)?specs/\S+\.antt:\d+:\d+: error: `(\S+)`", said, re.M), REFUSED)
+
+
 def goals_of(function, chosen, cycles, not_proved):
     """The goals of a function that are not proved. Where a round has several bodies of its cycle, those alone that are named after it: the goals of two
     functions of one name can't be told apart, and are those of neither."""
@@ -219,6 +224,7 @@ def judged_of(crate, chosen, cycles, said, standing, is_right):
     for body in chosen:
         of_body = {it: found.get(it, "no verdict") for it in body.functions or found}
         goals = {goal: how for it in of_body for goal, how in goals_of(it, chosen, cycles, not_proved).items()}
+        goals.update({} if body.functions else theorems_refused(said))
         if goals:
             how = min(goals.values(), key=KINDS.index)
             judged.append((body, "refused", "(%s: %s)" % (", ".join(it for it in goals if goals[it] == how), how), is_right))
