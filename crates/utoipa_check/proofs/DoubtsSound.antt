@@ -1,21 +1,21 @@
 -- Each doubt is true: its steps lead to a tree, of which its cause holds.
-use Rattle.std.proofs.Common.{◌≡◌, inl, inr, ℕ, suc, ◌+◌, List, [], ◌∷◌, Bool, true, false, cond, nat_cmp, codes, Option, Some, None, refl, sym, subst, ◌∙◌, Ordering, Less, Equal, Greater, arith}
+use Rattle.std.proofs.Common.{◌≡◌, inl, inr, ℕ, suc, ◌+◌, List, [], ◌∷◌, Bool, true, false, cond, nat_cmp, codes, Option, Some, None, refl, sym, subst, ◌∙◌, Ordering, Less, Equal, Greater, arith, true≢false}
 use Rattle.std.specs.Ordering.{match_ordering}
 use Rattle.std.specs.Cmp.Lexicographic.{slice_cmp}
 use Rattle.std.proofs.lemmas.Map.Lookups.{exact_bytes}
 use Rattle.serde_json.specs.Data.{Data, null, boolean, number, string, array, object, Items, no_items, item, Members, no_members, member}
 use Rattle.serde_json.specs.Find.{get_item}
 use Rattle.utoipa_base.specs.Choices.{is_schema_type}
-use Rattle.utoipa_base.specs.Kinds.{ObjectType, reference_object, one_of_schema, all_of_schema, any_of_schema, array_schema, object_schema, Kind, list_of, map_of, ordered_map_of, entries_of, ref_or, named, schema, array_items, additional_properties, Row}
+use Rattle.utoipa_base.specs.Kinds.{ObjectType, reference_object, one_of_schema, all_of_schema, any_of_schema, array_schema, object_schema, Kind, list_of, map_of, ordered_map_of, entries_of, ref_or, named, schema, array_items, additional_properties, Mark, required, optional, or_null, defaulted, Row}
 use Rattle.utoipa_base.specs.Extensions.{is_extension}
-use Rattle.utoipa_base.specs.Reading.{is_named}
+use Rattle.utoipa_base.specs.Reading.{is_null, is_named}
 use Rattle.utoipa_base.specs.Tables.{table}
 use Rattle.utoipa_check.specs.Taken.{taken_schema}
 use Rattle.utoipa_check.specs.Doubts.{row_doubts, rows_doubts, meant_doubts, schema_doubts, reference_doubts, array_doubts, own_doubts, object_doubts, doubter, item_doubters, doubters, doubts}
 use Rattle.utoipa_check.specs.Misfits.{at_name, at_index, Misfits, under, is_fit, Check, Checks, check_at, entry_checks, items_misfits, entries_misfits, table_misfits, object_misfits, fits_table, fits_schema, may_be_object, meant_schema, checker, checks}
 use Rattle.utoipa_check.specs.IsDropped.{IsMember}
-use Rattle.utoipa_check.specs.Truth.{Due, of_kind, IsTakenAsTable, IsTakenAsReference, IsNoReference, IsTakenAs, IsRow, AllTrueAt, AllTrue}
-use Rattle.utoipa_check.specs.Views.{takes_references, object_kind}
+use Rattle.utoipa_check.specs.Truth.{Due, of_kind, IsTakenAsTable, IsTakenAsReference, IsNoReference, IsTakenAs, IsRow, HasToFit, AllTrueAt, AllTrue}
+use Rattle.utoipa_check.specs.Views.{object_kind}
 use Rattle.utoipa_check.proofs.Exact.{misfits_exact}
 use Rattle.utoipa_check.proofs.Sound.{refused, meant_is, as_meant, AllDue, all_due, entries_due, table_sound}
 use Rattle.utoipa_check.proofs.Trues.{as_wider, as_own, as_table, join_true, either_true, under_true}
@@ -49,9 +49,19 @@ abbrev MembersSound : Members → Type 0
 MembersSound no_members = Unit {0}
 MembersSound (member k d ms) = IsSound d × MembersSound ms
 
+-- null is in no doubt
+null_undoubted : (d : Data) → is_null d ≡ true → (k : Kind) → doubter d k ≡ []
+unfolding doubter
+null_undoubted null e k = refl
+null_undoubted (boolean b) e k = absurd (true≢false (sym e))
+null_undoubted (number n) e k = absurd (true≢false (sym e))
+null_undoubted (string s) e k = absurd (true≢false (sym e))
+null_undoubted (array ds) e k = absurd (true≢false (sym e))
+null_undoubted (object ms) e k = absurd (true≢false (sym e))
+
 -- what is in doubt is true of a member of this name
 abbrev DoubtTrue : Members → List ℕ → Check → Type 0
-DoubtTrue all name c = (e : Data) × IsMember name e all × ((k : Kind) → AllTrue k e (c.1 k))
+DoubtTrue all name c = (e : Data) × IsMember name e all × ((k : Kind) → AllTrue k e (c.1 k)) × (is_null e ≡ true → (k : Kind) → c.1 k ≡ [])
 
 abbrev DoubtsTrue : Members → Checks → Type 0
 DoubtsTrue all [] = Unit {0}
@@ -60,7 +70,7 @@ DoubtsTrue all (c ∷ cs) = DoubtTrue all c.0 c.1 × DoubtsTrue all cs
 members_doubters : (all ms : Members) → ((n : List ℕ) (e : Data) → IsMember n e ms → IsMember n e all) → MembersSound ms → DoubtsTrue all (doubters ms)
 unfolding doubters
 members_doubters all no_members within h = tt
-members_doubters all (member k d ms) within h = ((d, within k d (inl (refl, refl)), h.0), members_doubters all ms (λ n e there. within n e (inr there)) h.1)
+members_doubters all (member k d ms) within h = ((d, within k d (inl (refl, refl)), h.0, null_undoubted d), members_doubters all ms (λ n e there. within n e (inr there)) h.1)
 
 -- what was found at a name
 abbrev Found : Members → List ℕ → Option Check → Type 0
@@ -80,9 +90,22 @@ found_at all name (c ∷ cs) h =
 
 -- ---- rows and maps
 
+row_member : (n : ObjectType) (r : Row) → IsRow r (table n) → (all : Members) (c : Check) (h : DoubtTrue all r.name c) → HasToFit r.mark h.0 → AllTrue (named n) (object all) (under (at_name r.name) (c.1 r.kind))
+row_member n r there all c h fit = under_true (at_name r.name) (named n) (object all) (of_kind r.kind) h.0 h.1 (r, there, refl, refl, fit) (c.1 r.kind) (h.2 r.kind)
+
+null_or_member : (n : ObjectType) (r : Row) → IsRow r (table n) → (all : Members) (c : Check) (h : DoubtTrue all r.name c) → (is_null h.0 ≡ false → HasToFit r.mark h.0) → (b : Bool) → is_null h.0 ≡ b → AllTrue (named n) (object all) (under (at_name r.name) (c.1 r.kind))
+null_or_member n r there all c h fit true is = subst (λ xs. AllTrue (named n) (object all) (under (at_name r.name) xs)) (sym (h.3 is r.kind)) tt
+null_or_member n r there all c h fit false is = row_member n r there all c h (fit is)
+
+member_true : (n : ObjectType) (r : Row) → IsRow r (table n) → (m : Mark) → r.mark ≡ m → (all : Members) (c : Check) (h : DoubtTrue all r.name c) → AllTrue (named n) (object all) (under (at_name r.name) (c.1 r.kind))
+member_true n r there required is all c h = row_member n r there all c h (subst (λ m. HasToFit m h.0) (sym is) tt)
+member_true n r there optional is all c h = null_or_member n r there all c h (λ other. subst (λ m. HasToFit m h.0) (sym is) other) (is_null h.0) refl
+member_true n r there or_null is all c h = null_or_member n r there all c h (λ other. subst (λ m. HasToFit m h.0) (sym is) other) (is_null h.0) refl
+member_true n r there defaulted is all c h = row_member n r there all c h (subst (λ m. HasToFit m h.0) (sym is) tt)
+
 row_true : (n : ObjectType) (r : Row) → IsRow r (table n) → (all : Members) (o : Option Check) → Found all r.name o → AllTrue (named n) (object all) (row_doubts r.name r.kind o)
 row_true n r there all None h = tt
-row_true n r there all (Some c) h = under_true (at_name r.name) (named n) (object all) (of_kind r.kind) h.0 h.1 (r, there, refl, refl) (c.1 r.kind) (h.2 r.kind)
+row_true n r there all (Some c) h = member_true n r there r.mark refl all c h
 
 rows_true : (n : ObjectType) (rs : List Row) → ((r : Row) → IsRow r rs → IsRow r (table n)) → (all : Members) (cs : Checks) → DoubtsTrue all cs → AllTrue (named n) (object all) (rows_doubts rs cs)
 rows_true n [] within all cs h = tt
@@ -95,7 +118,7 @@ table_true n all cs h = rows_true n (table n) (λ r there. there) all cs h
 entries_true : (outer k : Kind) (all : Members) (cs : Checks) → AllDue outer k cs → DoubtsTrue all cs → AllTrue outer (object all) (entries_misfits k cs)
 entries_true outer k all [] due h = tt
 entries_true outer k all (c ∷ cs) due h =
-    join_true (of_kind outer) (object all) (under (at_name c.0) (c.1.1 k)) (entries_misfits k cs) (under_true (at_name c.0) outer (object all) (of_kind k) h.0.0 h.0.1 due.0 (c.1.1 k) (h.0.2 k)) (entries_true outer k all cs due.1 h.1)
+    join_true (of_kind outer) (object all) (under (at_name c.0) (c.1.1 k)) (entries_misfits k cs) (under_true (at_name c.0) outer (object all) (of_kind k) h.0.0 h.0.1 (due.0 h.0.0) (c.1.1 k) (h.0.2 k)) (entries_true outer k all cs due.1 h.1)
 
 kept_true : (all : Members) (b : Bool) (c : List ℕ × Check) (cs : Checks) → DoubtTrue all c.0 c.1 → DoubtsTrue all cs → DoubtsTrue all (cond b cs (c ∷ cs))
 kept_true all true c cs g h = h
@@ -146,8 +169,8 @@ reference_true e d true (r ∷ rs) (m ∷ ms) ds f g h = h refl
 -- ---- objects
 
 own_true : (ms : Members) (ds : Checks) → DoubtsTrue ms ds → (k : Kind) → AllTrue k (object ms) (own_doubts ms (checks ms) ds k)
-own_true ms ds h (map_of k) = entries_true (map_of k) k ms ds (all_due (map_of k) k (λ n. refl) ds) h
-own_true ms ds h (ordered_map_of k) = entries_true (ordered_map_of k) k ms ds (all_due (ordered_map_of k) k (λ n. refl) ds) h
+own_true ms ds h (map_of k) = entries_true (map_of k) k ms ds (all_due (map_of k) k (λ n t. refl) ds) h
+own_true ms ds h (ordered_map_of k) = entries_true (ordered_map_of k) k ms ds (all_due (ordered_map_of k) k (λ n t. refl) ds) h
 own_true ms ds h (entries_of k) = entries_true (entries_of k) k ms (entry_checks ds) (entries_due k ds) (entry_checks_true ms ds h)
 own_true ms ds h (named n) = table_true n ms ds h
 own_true ms ds h schema = schema_true ms ds h

@@ -17,11 +17,11 @@ use Rattle.utoipa_base.specs.Tables.{table}
 use Rattle.utoipa_base.specs.Extensions.{is_extension}
 use Rattle.utoipa_base.specs.Reading.{is_null, is_named, reader, read}
 use Rattle.utoipa_check.specs.IsDropped.{IsMember, StandsIn}
-use Rattle.utoipa_check.specs.Misfits.{Step, at_name, at_index, Cause, absent, expected, unknown_word, no_alternative, fraction, Misfit, Misfits, here, under, is_fit, mismatch, expect, expect_of, unless_fit, Check, Checks, check_at, entry_checks, row_misfits, rows_misfits, table_misfits, items_misfits, entries_misfits, says_array, meant_schema, fits_table, fits_schema, schema_misfits, ref_or_misfits, alternative_misfits, chosen_misfits, tagged_misfits, api_key_misfits, scheme_misfits, security_scheme_misfits, flow_misfits, flows_misfits, null_misfits, boolean_misfits, number_misfits, string_misfits, array_misfits, object_misfits, checker, item_checkers, checks, misfits, fractions, items_fractions, members_fractions, is_fraction, without_fractions, misfits_and_fractions}
+use Rattle.utoipa_check.specs.Misfits.{Step, at_name, at_index, Cause, absent, expected, unknown_word, no_alternative, fraction, Misfit, Misfits, here, under, is_fit, mismatch, expect, expect_of, unless_fit, Check, Checks, check_at, entry_checks, row_misfits, rows_misfits, table_misfits, items_misfits, entries_misfits, says_array, meant_schema, fits_schema, schema_misfits, ref_or_misfits, alternative_misfits, chosen_misfits, tagged_misfits, api_key_misfits, scheme_misfits, security_scheme_misfits, flow_misfits, flows_misfits, null_misfits, boolean_misfits, number_misfits, string_misfits, array_misfits, object_misfits, checker, item_checkers, checks, misfits, fractions, items_fractions, members_fractions, is_fraction, without_fractions, misfits_and_fractions}
 use Rattle.utoipa_tables.specs.Tables.{words_of_choices, flow_kinds}
-use Rattle.utoipa_check.specs.Truth.{Due, of_kind, of_any_flow, of_words, IsTakenAsReference, IsNoReference, Chooses, IsTakenAs, IsRow, flow_due, Stands, IsDueBehind, kind_at, Requires, IsNoneOf, is_container, sort, IsOfAnotherSort, words_at, Reaches, IsFraction, IsTrueAt, AllTrueAt, AllTrue}
+use Rattle.utoipa_check.specs.Truth.{Due, of_kind, of_any_flow, of_words, IsTakenAsReference, IsNoReference, Chooses, IsTakenAs, IsRow, HasToFit, flow_due, Stands, IsDueBehind, kind_at, Requires, IsNoneOf, is_container, sort, IsOfAnotherSort, words_at, Reaches, IsFraction, IsTrueAt, AllTrueAt, AllTrue}
 use Rattle.utoipa_check.proofs.Exact.{misfits_exact, fractions_exact, join_fit, and_same, unless_fit-fit}
-use Rattle.utoipa_check.proofs.Trues.{stands, as_wider, as_own, as_table, join_true, either_true, under_true, here_true, expected_true}
+use Rattle.utoipa_check.proofs.Trues.{stands, as_wider, as_own, as_table, join_true, under_true, here_true, expected_true}
 
 -- ---- results
 
@@ -134,20 +134,20 @@ abbrev ItemsSound : Items → Type 0
 ItemsSound no_items = Unit {0}
 ItemsSound (item d ds) = IsSound d × ItemsSound ds
 
-items_true : (outer k : Kind) → ((i : ℕ) → IsDueBehind (at_index i) outer (of_kind k)) → (all : Items) (i : ℕ) (ds : Items) → ((j : ℕ) (e : Data) → get_item j ds ≡ Some e → get_item (i + j) all ≡ Some e) → ItemsSound ds
+items_true : (outer k : Kind) → ((i : ℕ) (t : Data) → IsDueBehind (at_index i) outer (of_kind k) t) → (all : Items) (i : ℕ) (ds : Items) → ((j : ℕ) (e : Data) → get_item j ds ≡ Some e → get_item (i + j) all ≡ Some e) → ItemsSound ds
     → AllTrue outer (array all) (items_misfits i k (item_checkers ds))
 unfolding item_checkers
 items_true outer k due all i no_items within h = tt
 items_true outer k due all i (item d ds) within h =
     join_true (of_kind outer) (array all) (under (at_index i) (checker d k)) (items_misfits (suc i) k (item_checkers ds))
-    (under_true (at_index i) outer (array all) (of_kind k) d (subst (λ n. get_item n all ≡ Some d) (omega arith) (within 0 d refl)) (due i) (checker d k) (h.0 k))
+    (under_true (at_index i) outer (array all) (of_kind k) d (subst (λ n. get_item n all ≡ Some d) (omega arith) (within 0 d refl)) (due i d) (checker d k) (h.0 k))
     (items_true outer k due all (suc i) ds (λ j e there. subst (λ n. get_item n all ≡ Some e) (omega arith) (within (suc j) e there)) h.1)
 
 array_true : (ds : Items) → ItemsSound ds → (k : Kind) → AllTrue k (array ds) (array_misfits (item_checkers ds) k)
 unfolding reader
 array_true ds h any = tt
-array_true ds h (list_of k) = items_true (list_of k) k (λ i. refl) ds 0 ds (λ j e there. subst (λ n. get_item n ds ≡ Some e) (omega arith) there) h
-array_true ds h schema_type = items_true schema_type (word_of type_word) (λ i. refl) ds 0 ds (λ j e there. subst (λ n. get_item n ds ≡ Some e) (omega arith) there) h
+array_true ds h (list_of k) = items_true (list_of k) k (λ i t. refl) ds 0 ds (λ j e there. subst (λ n. get_item n ds ≡ Some e) (omega arith) there) h
+array_true ds h schema_type = items_true schema_type (word_of type_word) (λ i t. refl) ds 0 ds (λ j e there. subst (λ n. get_item n ds ≡ Some e) (omega arith) there) h
 array_true ds h (ref_or k) = as_own k (array ds) (inl refl) (array_misfits (item_checkers ds) k) (array_true ds h k)
 array_true ds h k = expected_true k (array ds) (refl, refl)
 
@@ -159,7 +159,7 @@ MembersSound (member k d ms) = IsSound d × MembersSound ms
 
 -- what a check says is true of a member of this name
 abbrev CheckTrue : Members → List ℕ → Check → Type 0
-CheckTrue all name c = (e : Data) × IsMember name e all × ((k : Kind) → AllTrue k e (c.1 k)) × ((k : Kind) → is_fit (c.1 k) ≡ false → read k e ≡ None)
+CheckTrue all name c = (e : Data) × IsMember name e all × ((k : Kind) → AllTrue k e (c.1 k)) × ((k : Kind) → is_fit (c.1 k) ≡ false → read k e ≡ None) × (c.0 ≡ is_null e)
 
 abbrev ChecksTrue : Members → Checks → Type 0
 ChecksTrue all [] = Unit {0}
@@ -176,7 +176,7 @@ members_checks : (all ms : Members) → ((n : List ℕ) (e : Data) → IsMember 
 unfolding checks
 members_checks all no_members within h = tt
 members_checks all (member k d ms) within h =
-    ((d, within k d (inl (refl, refl)), h.0, λ l. refused l d), members_checks all ms (λ n e there. within n e (inr there)) h.1)
+    ((d, within k d (inl (refl, refl)), h.0, λ l. refused l d, refl), members_checks all ms (λ n e there. within n e (inr there)) h.1)
 
 found_by_order : (all : Members) (name : List ℕ) (o : Ordering) (x z : Option Check) (y : Check) (u w : Option Data) (v : Data) → Found all name x u → (o ≡ Equal → CheckTrue all name y) → Found all name z w
     → Found all name (match_ordering o x (Some y) z) (match_ordering o u (Some v) w)
@@ -190,7 +190,7 @@ found_at all name no_members within h = tt
 found_at all name (member k d ms) within h =
     let rest = found_at all name ms (λ n e there. within n e (inr there)) h.1 in
     found_by_order all name (slice_cmp nat_cmp name k) (check_at name (checks ms)) (check_at name (checks ms)) (is_null d, checker d) (get_member name ms) (get_member name ms) d rest
-    (λ same. (d, within name d (inl (exact_bytes name k same, refl)), h.0, λ l. refused l d)) rest
+    (λ same. (d, within name d (inl (exact_bytes name k same, refl)), h.0, λ l. refused l d, refl)) rest
 
 abbrev value_or : Option Data → Data → Data
 value_or None d = d
@@ -209,14 +209,17 @@ got_member name (member k d ms) e h =
 
 -- ---- rows
 
-null_or_true : (e : Due) (d : Data) (b : Bool) (xs : Misfits) → AllTrueAt e d xs → AllTrueAt e d (cond b [] xs)
-null_or_true e d b xs h = either_true e d b [] xs tt h
-
 absent_true : (k : Kind) (name : List ℕ) (ms : Members) → Requires k name → get_member name ms ≡ None → AllTrue k (object ms) (here (absent name))
 absent_true k name ms needs none = here_true (absent name) (of_kind k) (object ms) (stands k (object ms)) (needs, (ms, refl, none))
 
-row_member : (n : ObjectType) (r : Row) → IsRow r (table n) → (all : Members) (c : Check) → CheckTrue all r.name c → AllTrue (named n) (object all) (under (at_name r.name) (c.1 r.kind))
-row_member n r there all c h = under_true (at_name r.name) (named n) (object all) (of_kind r.kind) h.0 h.1 (r, there, refl, refl) (c.1 r.kind) (h.2 r.kind)
+row_member : (n : ObjectType) (r : Row) → IsRow r (table n) → (all : Members) (c : Check) (h : CheckTrue all r.name c) → HasToFit r.mark h.0 → AllTrue (named n) (object all) (under (at_name r.name) (c.1 r.kind))
+row_member n r there all c h fit = under_true (at_name r.name) (named n) (object all) (of_kind r.kind) h.0 h.1 (r, there, refl, refl, fit) (c.1 r.kind) (h.2 r.kind)
+
+-- of a row whose member may be null
+null_or_member : (n : ObjectType) (r : Row) → IsRow r (table n) → (all : Members) (c : Check) (h : CheckTrue all r.name c) → (is_null h.0 ≡ false → HasToFit r.mark h.0) → (b : Bool) → c.0 ≡ b
+    → AllTrue (named n) (object all) (cond b [] (under (at_name r.name) (c.1 r.kind)))
+null_or_member n r there all c h fit true is = tt
+null_or_member n r there all c h fit false is = row_member n r there all c h (fit (sym h.4 ∙ is))
 
 row_true : (n : ObjectType) (r : Row) → IsRow r (table n) → (m : Mark) → r.mark ≡ m → (all : Members) (o : Option Check) (p : Option Data) → get_member r.name all ≡ p → Found all r.name o p → AllTrue (named n) (object all) (row_misfits m r.name r.kind o)
 row_true n r there required is all None None e h = absent_true (named n) r.name all (r, there, refl, is) e
@@ -225,10 +228,10 @@ row_true n r there or_null is all None None e h = tt
 row_true n r there defaulted is all None None e h = tt
 row_true n r there m is all None (Some d) e h = absurd h
 row_true n r there m is all (Some c) None e h = absurd h
-row_true n r there required is all (Some c) (Some d) e h = row_member n r there all c h
-row_true n r there optional is all (Some c) (Some d) e h = null_or_true (of_kind (named n)) (object all) c.0 (under (at_name r.name) (c.1 r.kind)) (row_member n r there all c h)
-row_true n r there or_null is all (Some c) (Some d) e h = null_or_true (of_kind (named n)) (object all) c.0 (under (at_name r.name) (c.1 r.kind)) (row_member n r there all c h)
-row_true n r there defaulted is all (Some c) (Some d) e h = row_member n r there all c h
+row_true n r there required is all (Some c) (Some d) e h = row_member n r there all c h (subst (λ m. HasToFit m h.0) (sym is) tt)
+row_true n r there optional is all (Some c) (Some d) e h = null_or_member n r there all c h (λ other. subst (λ m. HasToFit m h.0) (sym is) other) c.0 refl
+row_true n r there or_null is all (Some c) (Some d) e h = null_or_member n r there all c h (λ other. subst (λ m. HasToFit m h.0) (sym is) other) c.0 refl
+row_true n r there defaulted is all (Some c) (Some d) e h = row_member n r there all c h (subst (λ m. HasToFit m h.0) (sym is) tt)
 
 rows_true : (n : ObjectType) (rs : List Row) → ((r : Row) → IsRow r rs → IsRow r (table n)) → (ms : Members) → MembersSound ms → AllTrue (named n) (object ms) (rows_misfits rs (checks ms))
 rows_true n [] within ms h = tt
@@ -245,15 +248,15 @@ table_true n ms h = rows_true n (table n) (λ r there. there) ms h
 -- the kind is due at each name
 abbrev pub AllDue : Kind → Kind → Checks → Type 0
 AllDue outer k [] = Unit {0}
-AllDue outer k (c ∷ cs) = IsDueBehind (at_name c.0) outer (of_kind k) × AllDue outer k cs
+AllDue outer k (c ∷ cs) = ((t : Data) → IsDueBehind (at_name c.0) outer (of_kind k) t) × AllDue outer k cs
 
-pub all_due : (outer k : Kind) → ((name : List ℕ) → IsDueBehind (at_name name) outer (of_kind k)) → (cs : Checks) → AllDue outer k cs
+pub all_due : (outer k : Kind) → ((name : List ℕ) (t : Data) → IsDueBehind (at_name name) outer (of_kind k) t) → (cs : Checks) → AllDue outer k cs
 all_due outer k f [] = tt
 all_due outer k f (c ∷ cs) = (f c.0, all_due outer k f cs)
 
 kept_due : (k : Kind) (b : Bool) (c : List ℕ × Check) (cs : Checks) → is_extension c.0 ≡ b → AllDue (entries_of k) k cs → AllDue (entries_of k) k (cond b cs (c ∷ cs))
 kept_due k true c cs e h = h
-kept_due k false c cs e h = ((e, refl), h)
+kept_due k false c cs e h = (λ t. (e, refl), h)
 
 pub entries_due : (k : Kind) (cs : Checks) → AllDue (entries_of k) k (entry_checks cs)
 entries_due k [] = tt
@@ -263,7 +266,7 @@ entries_true : (outer k : Kind) (all : Members) (cs : Checks) → AllDue outer k
 entries_true outer k all [] due h = tt
 entries_true outer k all (c ∷ cs) due h =
     join_true (of_kind outer) (object all) (under (at_name c.0) (c.1.1 k)) (entries_misfits k cs)
-    (under_true (at_name c.0) outer (object all) (of_kind k) h.0.0 h.0.1 due.0 (c.1.1 k) (h.0.2 k))
+    (under_true (at_name c.0) outer (object all) (of_kind k) h.0.0 h.0.1 (due.0 h.0.0) (c.1.1 k) (h.0.2 k))
     (entries_true outer k all cs due.1 h.1)
 
 kept_true : (all : Members) (b : Bool) (c : List ℕ × Check) (cs : Checks) → CheckTrue all c.0 c.1 → ChecksTrue all cs → ChecksTrue all (cond b cs (c ∷ cs))
@@ -368,17 +371,17 @@ not_chosen : (s : List ℕ) (cs : List (List ℕ × Kind)) → chosen s cs ≡ N
 not_chosen s [] e = refl
 not_chosen s (c ∷ cs) e = by_test (bytes_eq s c.0) c.1 (chosen s cs) (list_any (bytes_eq s) (words_of_choices cs)) (not_chosen s cs) e
 
-chosen_true : (outer : Kind) (name s : List ℕ) (choices : List (List ℕ × Kind)) (f : Kind → Misfits) (ms : Members) (o : Option Kind) → chosen s choices ≡ o → IsDueBehind (at_name name) outer (of_words (words_of_choices choices)) → get_member name ms ≡ Some (string s)
+chosen_true : (outer : Kind) (name s : List ℕ) (choices : List (List ℕ × Kind)) (f : Kind → Misfits) (ms : Members) (o : Option Kind) → chosen s choices ≡ o → ((t : Data) → IsDueBehind (at_name name) outer (of_words (words_of_choices choices)) t) → get_member name ms ≡ Some (string s)
     → ((k : Kind) → Chooses name choices (object ms) k → AllTrue outer (object ms) (f k)) → AllTrue outer (object ms) (chosen_misfits name choices f o)
 chosen_true outer name s choices f ms None e due there h =
     let ws = words_of_choices choices in
-    under_true (at_name name) outer (object ms) (of_words ws) (string s) (got_member name ms (string s) there) due (here (unknown_word ws)) (here_true (unknown_word ws) (of_words ws) (string s) refl (refl, (s, refl, not_chosen s choices e)))
+    under_true (at_name name) outer (object ms) (of_words ws) (string s) (got_member name ms (string s) there) (due (string s)) (here (unknown_word ws)) (here_true (unknown_word ws) (of_words ws) (string s) refl (refl, (s, refl, not_chosen s choices e)))
 chosen_true outer name s choices f ms (Some k) e due there h = h k (s, there, e)
 
-no_text : (outer : Kind) (name : List ℕ) (ws : List (List ℕ)) (ms : Members) (d : Data) → IsDueBehind (at_name name) outer (of_words ws) → get_member name ms ≡ Some d → read text d ≡ None → is_container (sort d) text ≡ false → AllTrue outer (object ms) (under (at_name name) (here (expected text)))
-no_text outer name ws ms d due e g h = under_true (at_name name) outer (object ms) (of_words ws) d (got_member name ms d e) due (here (expected text)) (here_true (expected text) (of_words ws) d refl (refl, (g, h)))
+no_text : (outer : Kind) (name : List ℕ) (ws : List (List ℕ)) (ms : Members) (d : Data) → ((t : Data) → IsDueBehind (at_name name) outer (of_words ws) t) → get_member name ms ≡ Some d → read text d ≡ None → is_container (sort d) text ≡ false → AllTrue outer (object ms) (under (at_name name) (here (expected text)))
+no_text outer name ws ms d due e g h = under_true (at_name name) outer (object ms) (of_words ws) d (got_member name ms d e) (due d) (here (expected text)) (here_true (expected text) (of_words ws) d refl (refl, (g, h)))
 
-tagged_true : (outer : Kind) (name : List ℕ) (choices : List (List ℕ × Kind)) (f : Kind → Misfits) (ms : Members) (o : Option Data) → get_member name ms ≡ o → Requires outer name → IsDueBehind (at_name name) outer (of_words (words_of_choices choices))
+tagged_true : (outer : Kind) (name : List ℕ) (choices : List (List ℕ × Kind)) (f : Kind → Misfits) (ms : Members) (o : Option Data) → get_member name ms ≡ o → Requires outer name → ((t : Data) → IsDueBehind (at_name name) outer (of_words (words_of_choices choices)) t)
     → ((k : Kind) → Chooses name choices (object ms) k → AllTrue outer (object ms) (f k)) → AllTrue outer (object ms) (tagged_misfits name choices f o)
 unfolding reader
 tagged_true outer name choices f ms None e needs due h = absent_true outer name ms needs e
@@ -386,7 +389,7 @@ tagged_true outer name choices f ms (Some null) e needs due h = no_text outer na
 tagged_true outer name choices f ms (Some (boolean b)) e needs due h = no_text outer name (words_of_choices choices) ms (boolean b) due e refl refl
 tagged_true outer name choices f ms (Some (number n)) e needs due h =
     let ws = words_of_choices choices in
-    under_true (at_name name) outer (object ms) (of_words ws) (number n) (got_member name ms (number n) e) due (here (mismatch text (number n))) (mismatch_true (of_words ws) text n refl refl (refl, refl) (is_float n) refl)
+    under_true (at_name name) outer (object ms) (of_words ws) (number n) (got_member name ms (number n) e) (due (number n)) (here (mismatch text (number n))) (mismatch_true (of_words ws) text n refl refl (refl, refl) (is_float n) refl)
 tagged_true outer name choices f ms (Some (string s)) e needs due h = chosen_true outer name s choices f ms (chosen s choices) refl due e h
 tagged_true outer name choices f ms (Some (array ds)) e needs due h = no_text outer name (words_of_choices choices) ms (array ds) due e refl refl
 tagged_true outer name choices f ms (Some (object l)) e needs due h = no_text outer name (words_of_choices choices) ms (object l) due e refl refl
@@ -399,7 +402,7 @@ key_alternative ms h (named n) c = as_wider (named n) api_key (object ms) (λ j 
 key_alternative ms h k c = absurd (true≢false (sym (key_kind ms k c)))
 
 api_key_true : (ms : Members) → MembersSound ms → AllTrue api_key (object ms) (api_key_misfits ms (checks ms))
-api_key_true ms h = tagged_true api_key (codes "in") api_key_places (alternative_misfits (checks ms)) ms (get_member (codes "in") ms) refl refl (refl, refl) (key_alternative ms h)
+api_key_true ms h = tagged_true api_key (codes "in") api_key_places (alternative_misfits (checks ms)) ms (get_member (codes "in") ms) refl refl (λ t. (refl, refl)) (key_alternative ms h)
 
 scheme_kind : (ms : Members) (k : Kind) → Chooses (codes "type") scheme_types (object ms) k → is_scheme_kind k ≡ true
 scheme_kind ms k h = chosen_scheme h.0 scheme_types (refl, (refl, (refl, (refl, (refl, tt))))) k h.2
@@ -410,7 +413,7 @@ scheme_true ms h (named n) c = as_wider (named n) security_scheme (object ms) (�
 scheme_true ms h k c = absurd (true≢false (sym (scheme_kind ms k c)))
 
 security_scheme_true : (ms : Members) → MembersSound ms → AllTrue security_scheme (object ms) (security_scheme_misfits ms (checks ms))
-security_scheme_true ms h = tagged_true security_scheme (codes "type") scheme_types (scheme_misfits ms (checks ms)) ms (get_member (codes "type") ms) refl refl (refl, refl) (scheme_true ms h)
+security_scheme_true ms h = tagged_true security_scheme (codes "type") scheme_types (scheme_misfits ms (checks ms)) ms (get_member (codes "type") ms) refl refl (λ t. (refl, refl)) (scheme_true ms h)
 
 -- ---- flows
 
@@ -440,8 +443,8 @@ all_checks ms h = members_checks ms ms (λ n e there. there) h
 object_true : (ms : Members) → MembersSound ms → (k : Kind) → AllTrue k (object ms) (object_misfits ms (checks ms) k)
 unfolding reader checker
 object_true ms h any = tt
-object_true ms h (map_of k) = entries_true (map_of k) k ms (checks ms) (all_due (map_of k) k (λ n. refl) (checks ms)) (all_checks ms h)
-object_true ms h (ordered_map_of k) = entries_true (ordered_map_of k) k ms (checks ms) (all_due (ordered_map_of k) k (λ n. refl) (checks ms)) (all_checks ms h)
+object_true ms h (map_of k) = entries_true (map_of k) k ms (checks ms) (all_due (map_of k) k (λ n t. refl) (checks ms)) (all_checks ms h)
+object_true ms h (ordered_map_of k) = entries_true (ordered_map_of k) k ms (checks ms) (all_due (ordered_map_of k) k (λ n t. refl) (checks ms)) (all_checks ms h)
 object_true ms h (entries_of k) = entries_true (entries_of k) k ms (entry_checks (checks ms)) (entries_due k (checks ms)) (entry_checks_true ms (checks ms) (all_checks ms h))
 object_true ms h (ref_or k) = ref_or_true (ref_or k) k k ms (object_misfits ms (checks ms) k) (λ j is. inr (inl is)) (λ j other taken. inr (inr (other, taken))) h (object_true ms h k)
 object_true ms h (named n) = table_true n ms h

@@ -1,9 +1,9 @@
 -- Misfits that are true stay so where they are joined, put behind a step, or seen from where another kind is due.
-use Rattle.std.proofs.Common.{◌≡◌, inl, inr, List, [], ◌∷◌, ◌++◌, Bool, true, false, cond, refl}
+use Rattle.std.proofs.Common.{inl, inr, List, [], ◌∷◌, ◌++◌, Bool, true, false, cond, refl}
 use Rattle.serde_json.specs.Data.{Data}
 use Rattle.utoipa_base.specs.Kinds.{ObjectType, Kind, ref_or, named, schema, array_items, additional_properties, security_scheme, api_key}
 use Rattle.utoipa_check.specs.IsDropped.{StandsIn}
-use Rattle.utoipa_check.specs.Misfits.{Step, at_name, at_index, Cause, absent, expected, unknown_word, no_alternative, fraction, Misfits, here, under}
+use Rattle.utoipa_check.specs.Misfits.{Step, Cause, absent, expected, unknown_word, no_alternative, fraction, Misfits, here, under}
 use Rattle.utoipa_check.specs.Truth.{Due, of_kind, IsTakenAsTable, IsNoReference, IsTakenAs, Stands, IsDueBehind, Leads, IsOfAnotherSort, Holds, IsTrueAt, AllTrueAt, AllTrue}
 
 -- ---- as which kind a tree is taken
@@ -64,7 +64,7 @@ either_true e d false xs ys g h = h
 
 -- ---- steps
 
-step_true : (c : Cause) (p : List Step) (s : Step) (k : Kind) (d : Data) (g : Due) (i : Data) → StandsIn s i d → IsDueBehind s k g → IsTrueAt c p g i → IsTrueAt c (s ∷ p) (of_kind k) d
+step_true : (c : Cause) (p : List Step) (s : Step) (k : Kind) (d : Data) (g : Due) (i : Data) → StandsIn s i d → IsDueBehind s k g i → IsTrueAt c p g i → IsTrueAt c (s ∷ p) (of_kind k) d
 step_true fraction p s k d g i there due h = (h.0, (i, there, h.1), h.2)
 step_true (absent n) p s k d g i there due h = (h.0, h.1, (k, stands k d, (g, i, (there, due), h.2)), h.3)
 step_true (expected l) p s k d g i there due h = (h.0, h.1, (k, stands k d, (g, i, (there, due), h.2)), h.3)
@@ -72,7 +72,7 @@ step_true (unknown_word ws) p s k d g i there due h = (h.0, h.1, (k, stands k d,
 step_true (no_alternative ks) p s k d g i there due h = (h.0, h.1, (k, stands k d, (g, i, (there, due), h.2)), h.3)
 
 -- what is true of a tree that stands in another is true of it there
-pub under_true : (s : Step) (k : Kind) (d : Data) (g : Due) (i : Data) → StandsIn s i d → IsDueBehind s k g → (xs : Misfits) → AllTrueAt g i xs → AllTrue k d (under s xs)
+pub under_true : (s : Step) (k : Kind) (d : Data) (g : Due) (i : Data) → StandsIn s i d → IsDueBehind s k g i → (xs : Misfits) → AllTrueAt g i xs → AllTrue k d (under s xs)
 under_true s k d g i there due [] h = tt
 under_true s k d g i there due (x ∷ xs) h = (step_true x.1 x.0 s k d g i there due h.0, under_true s k d g i there due xs h.1)
 

@@ -12,13 +12,13 @@ use Rattle.serde_json.specs.Data.{Num, Data, null, boolean, number, string, arra
 use Rattle.serde_json.specs.Find.{get, get_member, is_float}
 use Rattle.utoipa_base.specs.Choices.{chosen, scheme_types, api_key_places, flow_keys, is_schema_type}
 use Rattle.utoipa_base.specs.Extensions.{is_extension}
-use Rattle.utoipa_base.specs.Kinds.{ObjectType, reference_object, type_word, Kind, text, word_of, list_of, map_of, ordered_map_of, entries_of, ref_or, named, schema, schema_type, array_items, additional_properties, security_scheme, api_key, flows, required, Row}
-use Rattle.utoipa_base.specs.Reading.{read}
+use Rattle.utoipa_base.specs.Kinds.{ObjectType, reference_object, type_word, Kind, text, word_of, list_of, map_of, ordered_map_of, entries_of, ref_or, named, schema, schema_type, array_items, additional_properties, security_scheme, api_key, flows, Mark, required, optional, or_null, defaulted, Row}
+use Rattle.utoipa_base.specs.Reading.{is_null, read}
 use Rattle.utoipa_base.specs.Tables.{table}
 use Rattle.utoipa_base.specs.Words.{words}
 use Rattle.utoipa_tables.specs.Tables.{words_of_choices, flow_kinds}
 use Rattle.utoipa_check.specs.IsDropped.{StandsIn}
-use Rattle.utoipa_check.specs.Misfits.{Step, at_name, at_index, Cause, absent, expected, unknown_word, no_alternative, fraction, Misfit, Misfits, meant_schema}
+use Rattle.utoipa_check.specs.Misfits.{Step, at_name, at_index, Cause, absent, expected, unknown_word, no_alternative, fraction, Misfits, meant_schema}
 use Rattle.utoipa_check.specs.Places.{members_at}
 
 -- ---- what is due at a place
@@ -88,26 +88,33 @@ abbrev pub IsRow : Row → List Row → Type 0
 IsRow r [] = ⊥
 IsRow r (q ∷ rs) = (r ≡ q) ⊎ IsRow r rs
 
+-- by the mark of its row, a member has to fit: an optional one that is null is as if it were absent
+abbrev pub HasToFit : Mark → Data → Type 0
+HasToFit required t = Unit {0}
+HasToFit optional t = is_null t ≡ false
+HasToFit or_null t = is_null t ≡ false
+HasToFit defaulted t = Unit {0}
+
 abbrev pub flow_due : Option ObjectType → Due
 flow_due None = of_any_flow
 flow_due (Some n) = of_kind (named n)
 
--- what is due behind a step from a tree that is taken as a kind
-abbrev pub IsDueBehind : Step → Kind → Due → Type 0
-IsDueBehind (at_name name) (named n) e = (r : Row) × IsRow r (table n) × (r.name ≡ name) × (e ≡ of_kind r.kind)
-IsDueBehind (at_name name) (map_of k) e = e ≡ of_kind k
-IsDueBehind (at_name name) (ordered_map_of k) e = e ≡ of_kind k
-IsDueBehind (at_name name) (entries_of k) e = (is_extension name ≡ false) × (e ≡ of_kind k)
-IsDueBehind (at_name name) flows e = e ≡ flow_due (chosen name flow_keys)
-IsDueBehind (at_name name) security_scheme e = (name ≡ codes "type") × (e ≡ of_words (words_of_choices scheme_types))
-IsDueBehind (at_name name) api_key e = (name ≡ codes "in") × (e ≡ of_words (words_of_choices api_key_places))
-IsDueBehind (at_index i) (list_of k) e = e ≡ of_kind k
-IsDueBehind (at_index i) schema_type e = e ≡ of_kind (word_of type_word)
-IsDueBehind s k e = ⊥
+-- of the tree behind a step, from one that is taken as a kind, this is due
+abbrev pub IsDueBehind : Step → Kind → Due → Data → Type 0
+IsDueBehind (at_name name) (named n) e t = (r : Row) × IsRow r (table n) × (r.name ≡ name) × (e ≡ of_kind r.kind) × HasToFit r.mark t
+IsDueBehind (at_name name) (map_of k) e t = e ≡ of_kind k
+IsDueBehind (at_name name) (ordered_map_of k) e t = e ≡ of_kind k
+IsDueBehind (at_name name) (entries_of k) e t = (is_extension name ≡ false) × (e ≡ of_kind k)
+IsDueBehind (at_name name) flows e t = e ≡ flow_due (chosen name flow_keys)
+IsDueBehind (at_name name) security_scheme e t = (name ≡ codes "type") × (e ≡ of_words (words_of_choices scheme_types))
+IsDueBehind (at_name name) api_key e t = (name ≡ codes "in") × (e ≡ of_words (words_of_choices api_key_places))
+IsDueBehind (at_index i) (list_of k) e t = e ≡ of_kind k
+IsDueBehind (at_index i) schema_type e t = e ≡ of_kind (word_of type_word)
+IsDueBehind s k e t = ⊥
 
--- a step leads from a tree that is taken as a kind to one that stands in it, where this is due
+-- a step leads from a tree that is taken as a kind to one that stands in it, of which this is due
 abbrev pub StepsTo : Step → Kind → Data → Due → Data → Type 0
-StepsTo s k d e t = StandsIn s t d × IsDueBehind s k e
+StepsTo s k d e t = StandsIn s t d × IsDueBehind s k e t
 
 -- the steps lead from a tree, where the first is due, to a tree that stands as the second
 abbrev pub Leads : List Step → Due → Data → Due → Data → Type 0

@@ -6,7 +6,7 @@ use Rattle.serde_json.specs.Written.{has_float}
 use Rattle.utoipa_base.specs.Kinds.{Kind}
 use Rattle.utoipa_check.specs.Doubts.{doubts}
 use Rattle.utoipa_check.specs.Dropped.{Loss, Dropped, dropped_by}
-use Rattle.utoipa_check.specs.Misfits.{Step, Cause, Misfit, misfits_and_fractions}
+use Rattle.utoipa_check.specs.Misfits.{Step, Cause, Misfit, without_fractions, misfits_and_fractions}
 use Rattle.utoipa_check.specs.References.{Reference, references}
 use Rattle.utoipa_check.specs.Referring.{State, dangling, resolved, external}
 
@@ -55,7 +55,11 @@ dropped_where_read k t = if has_float t then [] else or_none (dropped_by k t)
 abbrev pub refusals : Kind → Data → List Finding
 refusals k t = map unfit_at (misfits_and_fractions k t)
 
+-- what is read otherwise than it was meant. A fraction is told where the tree does not fit, and not once more.
+abbrev pub meant_otherwise : Kind → Data → List Finding
+meant_otherwise k t = map doubtful_at (without_fractions (doubts k t))
+
 -- What is found in a tree: what does not fit, what is read otherwise than it was meant, what is dropped, and the references that lead to
 -- nothing. Each in the order of the member tables, but what is dropped in that of the tree.
 abbrev pub findings : Kind → Data → List Finding
-findings k t = ((refusals k t ++ map doubtful_at (doubts k t)) ++ map lost_at (dropped_where_read k t)) ++ flat_map dangles_at (references k t)
+findings k t = ((refusals k t ++ meant_otherwise k t) ++ map lost_at (dropped_where_read k t)) ++ flat_map dangles_at (references k t)

@@ -2,7 +2,6 @@
 ghost use Rattle.std.specs.Prelude.{◌≡◌, ◌++◌, IfOk, OnOk, map, string_bytes};
 ghost use Rattle.std.specs.List.{flat_map};
 ghost use Rattle.serde_json.specs.View.{view};
-ghost use Rattle.utoipa_check.specs.Doubts.{doubts};
 ghost use Rattle.utoipa_check.specs.DroppedViews.{all_dropped};
 ghost use Rattle.utoipa_check.specs.References.{references};
 ghost use Rattle.utoipa_findings.specs.Findings as specs;
@@ -20,7 +19,7 @@ use serde_json::Value;
 use std::alloc::{AllocError, Global};
 use utoipa_base::{ReadFault, Tree};
 use utoipa_check::references::references;
-use utoipa_check::{Dropped, State, doubts, dropped_by, misfits};
+use utoipa_check::{Dropped, State, doubts, dropped_by, misfits, without_fractions};
 use utoipa_tables::Kind;
 
 /// Adds what does not fit, and the fractions. Fails where memory runs out.
@@ -42,7 +41,7 @@ pub(crate) fn put_refusals<'a>(
     Ok(())
 }
 
-/// Adds what is read otherwise than it was meant. Fails where memory runs out.
+/// Adds what is read otherwise than it was meant, but for fractions, which are told already. Fails where memory runs out.
 fn put_doubts<'a>(
     alloc: Global,
     kind: Kind,
@@ -50,9 +49,10 @@ fn put_doubts<'a>(
     found: &mut Vec<Finding<'a>>,
 ) -> Result<(), AllocError>
     ensures { OnOk result (all_findings found.new.items
-        ≡ all_findings found.old.items ++ map specs.doubtful_at (doubts (kind_of kind) (view tree.now))) }
+        ≡ all_findings found.old.items ++ specs.meant_otherwise (kind_of kind) (view tree.now)) }
 {
-    for misfit in doubts(alloc, kind, tree)? {
+    let doubted = doubts(alloc, kind, tree)?;
+    for misfit in without_fractions(alloc, doubted)? {
         found.push(Finding {
             pointer: misfit.pointer,
             what: What::Doubtful(misfit.cause),

@@ -1,7 +1,6 @@
-use Rattle.std.proofs.Common.{◌∙◌, ap, sym, subst}
+use Rattle.std.proofs.Common.{◌∙◌, sym, subst}
 use Rattle.serde_json.specs.View.{view}
 use Rattle.utoipa_check.specs.Truth.{AllTrue}
-use Rattle.utoipa_check.specs.Views.{misfits_of}
 use Rattle.utoipa_tables.specs.Tables.{kind_of}
 use Rattle.utoipa_check.proofs.Reports.{with_fractions, plain_found, empty_exactly}
 use Rattle.utoipa_check.proofs.Sound.{misfits_and_fractions_sound}
