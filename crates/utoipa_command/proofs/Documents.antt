@@ -1,5 +1,5 @@
 -- Lists of documents that are read from a text's tree: what they are merged or nested into is plain and in key order.
-use Rattle.std.proofs.Common.{◌≡◌, ◌≢◌, ◌∷◌, ◌||◌, ℕ, List, [], Bool, false, Option, Some, None, IfSome, length, map, refl, sym, ap, ◌∙◌, subst, codes, Vec, Global, Result, Ok, Err, IfErr}
+use Rattle.std.proofs.Common.{◌≡◌, ◌≢◌, ◌∷◌, ◌||◌, ℕ, List, [], Bool, false, Option, Some, None, IfSome, length, map, refl, sym, ap, ◌∙◌, subst, codes, Vec, Global, Result, Ok, Err, IfOk, IfErr}
 use Rattle.std.specs.List.{AllByRecursion, list_any}
 use Rattle.std.specs.Result.{IsErrAnd}
 use Rattle.std.proofs.lemmas.List.{length-map}
@@ -126,6 +126,11 @@ pub count_refused : {D : Type 0} (f : D → Doc) (base : List ℕ) (t : Data) (v
     → read (list_of document_kind) t ≡ Some (list_of_docs f v) → length v.items ≢ 2 → IsCauseInTree (nest base) t Count
 count_refused f base t v plain reads other =
     (plain, (list_of_docs f v, reads, λ two. other (sym (length-map v.items f) ∙ sym (ap length (listed (map f v.items))) ∙ two)))
+
+-- what follows from what holds of a result holds of it
+pub if_ok : {T E : Type 0} (P Q : T → Type 0) (r : Result T E) → IfOk r P → ((v : T) → P v → Q v) → IfOk r Q
+if_ok P Q (Ok v) h g = g v h
+if_ok P Q (Err e) h g = tt
 
 pub answers_merged : (t : Data) (ds : List Doc) (d : Doc) (line : List ℕ) → has_float t ≡ false
     → read (list_of document_kind) t ≡ Some (list_doc (docs_of ds)) → IsMerged ds d → IsInKeyOrder d

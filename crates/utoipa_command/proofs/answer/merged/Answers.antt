@@ -1,9 +1,8 @@
 use Rattle.std.proofs.Common.{◌∙◌, Err, true≢false, map, ap, sym}
-use Rattle.std.proofs.lemmas.Result.{IfOk-weaker}
 use Rattle.utoipa_base.proofs.Results.{if_is}
 use Rattle.utoipa.specs.OpenApi.{openapi_doc}
 use Rattle.utoipa_command.specs.Commands.{merge}
-use Rattle.utoipa_command.proofs.Documents.{all_plain, answers_merged, memory_refused, none_has_fraction, refused}
+use Rattle.utoipa_command.proofs.Documents.{all_plain, answers_merged, if_ok, memory_refused, none_has_fraction, refused}
 use Rattle.utoipa_command.proofs.TextsRead.{input_passed_on, tree_refused}
 use Rattle.utoipa_command.proofs.answer.merged.Goals as goal
 
@@ -23,13 +22,13 @@ returns-in-Some-clause-ok c =
     let read = c.in_ok-documents.ensures.ok in
     let merged = c.in_ok-document.ensures in
     let documents = c.in_ok-documents.documents.items in
-    IfOk-weaker c.line.result _ _ (λ line printed.
+    if_ok _ _ c.line.result c.line.ensures.ok (λ line printed.
     record {
       tree = read.tree;
       has = read.has;
       answers = answers_merged read.tree (map openapi_doc documents) _ _ read.reads.0 read.reads.1
           (if_is _ _ _ merged.ok c.in-Some.is) (if_is _ _ _ merged.ordered c.in-Some.is) printed;
-    }) c.line.ensures.ok
+    })
 
 pub returns-in-Some-clause-err : goal.returns-in-Some-clause-err
 returns-in-Some-clause-err c =

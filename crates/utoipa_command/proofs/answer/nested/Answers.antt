@@ -1,10 +1,9 @@
 use Rattle.std.proofs.Common.{◌≡◌, ◌∷◌, ◌∙◌, [], Err, true≢false, ap, sym}
-use Rattle.std.proofs.lemmas.Result.{IfOk-weaker}
 use Rattle.utoipa_merging.proofs.ItemWalks.{none_left}
 use Rattle.utoipa.specs.OpenApi.{openapi_doc, openapi_of_kind}
 use Rattle.utoipa_command.specs.Commands.{nest}
 use Rattle.utoipa_command.proofs.Counts.{has_third, no_first, no_second, none_to_give}
-use Rattle.utoipa_command.proofs.Documents.{all_plain, answers_nested, count_refused, memory_refused, neither_has_fraction, refused, two_documents}
+use Rattle.utoipa_command.proofs.Documents.{all_plain, answers_nested, count_refused, if_ok, memory_refused, neither_has_fraction, refused, two_documents}
 use Rattle.utoipa_command.specs.declared.refusal.Refusal.TheVariants.{Count}
 use Rattle.utoipa_command.proofs.TextsRead.{input_passed_on, tree_refused}
 use Rattle.utoipa_command.proofs.Trees.{cause_in_tree, is_sorted}
@@ -34,14 +33,14 @@ returns-in-Some-Some-None-clause-ok c =
     let rest = c.next-2.new.self.rest in
     let none : rest.items ≡ [] = none_left rest.items rest.len rest.ok.0 two.ensures''.cases.0 in
     let both = sym c.into_iter-documents.ensures.rest ∙ two.ensures.items ∙ ap (λ xs. two.own ∷ xs) (two.ensures'.items ∙ ap (λ xs. two.nested ∷ xs) none) in
-    IfOk-weaker c.line.result _ _ (λ line printed.
+    if_ok _ _ c.line.result c.line.ensures.ok (λ line printed.
     record {
       tree = read.tree;
       has = read.has;
       answers = answers_nested c.args.base.now read.tree (openapi_doc two.own) (openapi_doc two.nested) _ _ read.reads.0 (is_sorted _ read.tree read.has)
           (two_documents openapi_doc read.tree c.in_ok-document_of.field-0 two.own two.nested both read.reads.1)
           (openapi_of_kind two.own) (openapi_of_kind two.nested) nested.ok nested.ordered printed;
-    }) c.line.ensures.ok
+    })
 
 pub returns-in-Some-Some-None-clause-err : goal.returns-in-Some-Some-None-clause-err
 returns-in-Some-Some-None-clause-err c =
