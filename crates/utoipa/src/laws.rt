@@ -13,21 +13,21 @@ ghost use Rattle.utoipa.specs.MainTheorem.{IsReadBack, MainTheorem};
 ghost use Rattle.utoipa.specs.Merging.{leaves_of};
 ghost use Rattle.utoipa.specs.OpenApi.{openapi_doc};
 
-use crate::bracketing::{Bracketing, merge_tree};
+use crate::bracketing::{Bracketing, merge_all, merge_tree};
 use crate::document::OpenApi;
 use crate::merging::MergeFault;
 use serde_json::Value;
-use std::alloc::Global;
+use std::alloc::{AllocError, Global};
 pub use utoipa_base::laws::{
     component_stands_there, members_have_fewer_values, normal_form_twice, one_normal_form,
     reads_back, stays_plain, what_is_read,
 };
-use utoipa_base::{Counted, ReadFault, Tree};
+use utoipa_base::{Counted, Documented, ReadFault, Tree};
 pub use utoipa_merging::laws::{
-    any_brackets, brackets_agree, copy_changes_nothing, merged_in_one_way, merged_no_deeper,
-    merged_stays_normal, merged_stays_plain, merged_stays_well_formed, merging_composes,
-    merging_texts_composes, nested_in_one_way, nested_paths, nested_stays_normal,
-    nested_stays_plain, nested_stays_well_formed, nothing_added, one_document,
+    any_brackets, brackets_agree, copy_changes_nothing, merged_in_one_way, merged_in_some_way,
+    merged_no_deeper, merged_stays_normal, merged_stays_plain, merged_stays_well_formed,
+    merging_composes, merging_texts_composes, nested_in_one_way, nested_in_some_way, nested_paths,
+    nested_stays_normal, nested_stays_plain, nested_stays_well_formed, nothing_added, one_document,
     text_of_what_is_merged, texts_are_sorted, texts_in_any_brackets, texts_merged_in_one_way,
     three_documents, what_is_read_fits, what_is_read_is_in_key_order, written_text_reads_back,
 };
@@ -37,34 +37,46 @@ pub use utoipa_merging::laws::{
 pub struct Answers<T> {
     /// What the tree was read as.
     pub read: Counted<T>,
+    /// The tree that the value was written as.
+    pub written: Result<Value, AllocError>,
     /// What the value was read back as, from the tree that it is written as.
     pub read_back: Result<T, ReadFault>,
-    /// What the documents were merged to.
+    /// What the documents in brackets were merged to.
     pub merged: Result<OpenApi, MergeFault>,
+    /// What the documents of the list were merged to at once, none where there are none.
+    pub merged_at_once: Result<Option<OpenApi>, MergeFault>,
 }
 
-/// The theorem of this library, for all trees, values and documents in any brackets: it reads the tree, writes the value and reads it back,
-/// and merges the documents, and the clause says all that is promised of these.
+/// The theorem of this library, for all trees, values and documents. The first part is laws, which need no call:
 ///
-/// 1. A tree is read as exactly the document that the member tables give, and is refused, memory aside, exactly where they give none or the
-///    tree holds a fraction; on the way at most as many schemas are read as the tree has values.
-/// 2. A well-formed value that is written as a tree reads back from it, memory aside, as its normal form.
-/// 3. Documents are merged, in any brackets and memory aside, to the one document of the slots' rules, its maps in the order of their keys, and
-///    refused exactly where there are two or more and a server or a tag holds a fraction. Well-formed documents are merged to a well-formed
-///    one, and documents in normal form to one in normal form.
+/// 1. A well-formed value reads back, from the tree that it is written as, as its normal form.
+/// 2. One document or more have exactly one merged document by the slots' rules, its maps in the order of their keys. Nesting one document into
+///    another gives exactly one, too.
+/// 3. A value of `OpenApi` is an OpenAPI Object (section 4.8.1).
+///
+/// The second part says what each call answers. Each may also answer that memory ran out:
+///
+/// 4. A tree is read as exactly the document that the member tables give, and is refused exactly where they give none or the tree holds a
+///    fraction; on the way at most as many schemas are read as the tree has values.
+/// 5. A value is written as the tree of the member tables, and a well-formed one is read back from it as its normal form.
+/// 6. Documents, in any brackets or in a list, are merged to the merged document. They are refused exactly where there are two or more and a
+///    server or a tag holds a fraction. Well-formed documents are merged to a well-formed one, and documents in normal form to one in normal form.
 pub fn main_theorem<T: Tree>(
     alloc: Global,
     tree: &Value,
     value: &T,
     documents: Bracketing,
+    listed: Vec<OpenApi>,
 ) -> Answers<T>
-    ensures { MainTheorem T.kind T.doc (view tree.now) value.now (leaves_of documents) result }
+    ensures { MainTheorem T.kind T.doc ⟦<OpenApi as Documented>⟧.kind ⟦<OpenApi as Documented>⟧.doc (view tree.now) value.now
+        (leaves_of documents) listed.items result }
 {
-    merged_in_one_way();
     Answers {
         read: T::from_value_counted(alloc, tree),
+        written: value.to_value(alloc),
         read_back: written_and_read(alloc, value),
         merged: merge_tree(alloc, documents),
+        merged_at_once: merge_all(alloc, listed),
     }
 }
 
