@@ -1,5 +1,5 @@
 -- Rows whose members are left out.
-use Rattle.std.proofs.Common.{◌≡◌, ℕ, List, [], ◌∷◌, true, false, Option, Some, None, is_some, refl}
+use Rattle.std.proofs.Common.{◌≡◌, ℕ, List, [], ◌∷◌, Bool, true, false, not, Option, Some, None, is_some, refl}
 use Rattle.serde_json.specs.Data.{no_members}
 use Rattle.utoipa_base.specs.Docs.{Doc, Docs, no_docs, doc}
 use Rattle.utoipa_base.specs.InOrder.{row_members}
@@ -8,9 +8,11 @@ use Rattle.utoipa_base.specs.Rows.{rows_from}
 use Rattle.utoipa_base.specs.Views.{option_of}
 use Rattle.utoipa_base.specs.Writing.{is_none, left_out}
 
-pub absent_is_none : {T : Type 0} (f : T → Doc) (o : Option T) → is_some o ≡ false → is_none (option_of f o) ≡ true
-absent_is_none f None gone = refl
-absent_is_none f (Some x) gone = cc
+pub absent_is_none : {T : Type 0} (f : T → Doc) (o : Option T) (gone : Bool) → is_some o ≡ not gone → is_none (option_of f o) ≡ gone
+absent_is_none f None true is = refl
+absent_is_none f None false is = cc
+absent_is_none f (Some x) true is = cc
+absent_is_none f (Some x) false is = refl
 
 pub no_rows : (rs : List Row) → row_members no_docs rs ≡ no_members
 unfolding row_members

@@ -15,7 +15,7 @@ use utoipa_base::{Emit, EmitRow, EmitRows, JsonSink, Omit, PendingExtensions};
 pub(crate) trait LeaveOut: EmitRow {
     /// Whether the member is left out where its object is sent.
     fn is_left_out(&self) -> bool
-        ensures { result ≡ true → (name : List ℕ) → left_out (Self.line name).mark (Self.doc self.now) ≡ true };
+        ensures { (name : List ℕ) → left_out (Self.line name).mark (Self.doc self.now) ≡ result };
 }
 
 impl<'v, T: Emit> LeaveOut for OptionalValue<'v, T> {
