@@ -1,0 +1,6 @@
+pub mod ByParts
+pub mod Exact
+pub mod NoReference
+pub mod Schemes
+pub mod SchemaFields
+pub mod OperationFields

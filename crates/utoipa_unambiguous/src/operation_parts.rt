@@ -1,0 +1,75 @@
+//! Parameters, request bodies and responses.
+ghost use Rattle.utoipa_operation_parts.specs.Parameter.{parameter_of_kind};
+ghost use Rattle.utoipa_operation_parts.specs.RequestBody.{request_body_of_kind};
+ghost use Rattle.utoipa_operation_parts.specs.Response.{response_of_kind};
+ghost use Rattle.utoipa_operation_parts.specs.Responses.{responses_of_kind};
+
+use crate::parts::{
+    InPlace, Unambiguous, extensions_are_unambiguous, names_are_no_extensions, option_is_unambiguous,
+};
+use utoipa_operation_parts::{Parameter, RequestBody, Response, Responses};
+
+#[tactic(auto, using(crate::proofs::OperationFields::by_operation_fields))]
+impl Unambiguous for Parameter {
+    ghost of_kind = { parameter_of_kind };
+
+    fn is_unambiguous(&self) -> bool {
+        self.content.is_unambiguous()
+            && option_is_unambiguous(&self.schema)
+            && extensions_are_unambiguous(&self.extensions)
+    }
+}
+
+impl InPlace for Parameter {
+    fn is_no_reference(&self) -> bool {
+        let _parameter = self;
+        true
+    }
+}
+
+#[tactic(auto, using(crate::proofs::ByParts::by_parts))]
+impl Unambiguous for RequestBody {
+    ghost of_kind = { request_body_of_kind };
+
+    fn is_unambiguous(&self) -> bool {
+        self.content.is_unambiguous() && extensions_are_unambiguous(&self.extensions)
+    }
+}
+
+impl InPlace for RequestBody {
+    fn is_no_reference(&self) -> bool {
+        let _request_body = self;
+        true
+    }
+}
+
+#[tactic(auto, using(crate::proofs::ByParts::by_parts))]
+impl Unambiguous for Response {
+    ghost of_kind = { response_of_kind };
+
+    fn is_unambiguous(&self) -> bool {
+        self.content.is_unambiguous()
+            && self.headers.is_unambiguous()
+            && self.links.is_unambiguous()
+            && extensions_are_unambiguous(&self.extensions)
+    }
+}
+
+impl InPlace for Response {
+    fn is_no_reference(&self) -> bool {
+        let _response = self;
+        true
+    }
+}
+
+/// Responses are, where besides no status begins with `x-`.
+#[tactic(auto, using(crate::proofs::ByParts::by_parts))]
+impl Unambiguous for Responses {
+    ghost of_kind = { responses_of_kind };
+
+    fn is_unambiguous(&self) -> bool {
+        self.responses.is_unambiguous()
+            && names_are_no_extensions(&self.responses)
+            && extensions_are_unambiguous(&self.extensions)
+    }
+}
