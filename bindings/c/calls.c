@@ -191,9 +191,15 @@ static void each_refusal_has_its_code(void) {
     refuses(utoipa_server, "{\"url\":\"u\",\"x-a\":1.0}", UTOIPA_FRACTION);
     refuses(utoipa_server, "{}", UTOIPA_MISSING);
     refuses(utoipa_server, "{\"url\":5}", UTOIPA_KIND);
-    refuses(utoipa_document, "{\"openapi\":\"3.0.3\",\"info\":{\"title\":\"t\",\"version\":\"1\"},\"paths\":{}}", UTOIPA_WORD);
-    refuses(utoipa_schema, "{\"type\":\"text\"}", UTOIPA_ALTERNATIVE);
+    refuses(utoipa_document, "{\"openapi\":\"3.0.3\",\"info\":{\"title\":\"t\",\"version\":\"1\"},\"paths\":{}}", UTOIPA_KIND);
+    refuses(utoipa_document, "{\"openapi\":\"3.1.0\",\"info\":{\"title\":\"t\",\"version\":\"1\"},\"paths\":{\"/a\":{\"parameters\":[{\"name\":\"n\",\"in\":\"querry\",\"required\":true}]}}}", UTOIPA_WORD);
+    refuses(utoipa_schema, "{\"type\":\"text\"}", UTOIPA_WORD);
+    refuses(utoipa_schema, "{\"type\":\"object\",\"propertyNames\":{\"$ref\":\"#/a\"}}", UTOIPA_ALTERNATIVE);
     refuses(utoipa_merge, "[]", UTOIPA_EMPTY);
+    /* The first place that does not fit: `info` stands before `openapi` in the table, and the first document before the second. */
+    refuses(utoipa_document, "{\"openapi\":5,\"info\":{\"title\":\"t\"},\"paths\":{}}", UTOIPA_MISSING);
+    refuses(utoipa_merge, "[" DOCUMENT_A ",{},5]", UTOIPA_MISSING);
+    refuses(nest_at_v1, "[5,{}]", UTOIPA_KIND);
     refuses(nest_at_v1, "[" DOCUMENT_A "]", UTOIPA_COUNT);
     refuses(nest_at_v1, "[" DOCUMENT_A "," DOCUMENT_B "," DOCUMENT_A "]", UTOIPA_COUNT);
 }

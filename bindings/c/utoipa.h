@@ -52,13 +52,13 @@ enum {
     /* The text is JSON, and a number of it is neither an int64_t nor a uint64_t. */
     UTOIPA_FRACTION = 4,
     /* Each of the next four: the text is JSON with no such number, and no document of the kind that the function reads. Which of the
-       four comes is not promised. A required member is absent; */
+       four comes tells the first place that does not fit, in the order in which utoipa_check tells them. A required member is absent there; */
     UTOIPA_MISSING = 5,
-    /* a value is of another kind or range; */
+    /* the value there is of another kind or range, or is no version that is read; */
     UTOIPA_KIND = 6,
-    /* a text is none of the words that may stand there; */
+    /* the text there is none of the words that may stand there; */
     UTOIPA_WORD = 7,
-    /* no alternative of a choice fits. */
+    /* no alternative of the choice there fits. */
     UTOIPA_ALTERNATIVE = 8,
     /* Of utoipa_merge alone: the text is a list of no documents. */
     UTOIPA_EMPTY = 9,

@@ -68,8 +68,14 @@ const calls = {
     refuses("fraction", () => utoipa.server('{"url":"u","x-a":1.0}'));
     refuses("missing", () => utoipa.server("{}"));
     refuses("kind", () => utoipa.server('{"url":5}'));
-    refuses("word", () => utoipa.document('{"openapi":"3.0.3","info":{"title":"t","version":"1"},"paths":{}}'));
-    refuses("alternative", () => utoipa.schema('{"type":"text"}'));
+    refuses("kind", () => utoipa.document('{"openapi":"3.0.3","info":{"title":"t","version":"1"},"paths":{}}'));
+    refuses("word", () => utoipa.schema('{"type":"text"}'));
+    refuses("alternative", () => utoipa.schema('{"type":"object","propertyNames":{"$ref":"#/a"}}'));
+  },
+  "the first place that does not fit is told"() {
+    refuses("missing", () => utoipa.document('{"openapi":5,"info":{"title":"t"},"paths":{}}'));
+    refuses("missing", () => utoipa.merge(`[${FIRST},{},5]`));
+    refuses("kind", () => utoipa.conflicts("[5,{}]"));
   },
   "another number of documents is refused"() {
     refuses("empty", () => utoipa.merge("[]"));

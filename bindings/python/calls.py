@@ -72,8 +72,14 @@ class Calls(unittest.TestCase):
         self.refuses("fraction", utoipa.server, '{"url":"u","x-a":1.0}')
         self.refuses("missing", utoipa.server, "{}")
         self.refuses("kind", utoipa.server, '{"url":5}')
-        self.refuses("word", utoipa.document, '{"openapi":"3.0.3","info":{"title":"t","version":"1"},"paths":{}}')
-        self.refuses("alternative", utoipa.schema, '{"type":"text"}')
+        self.refuses("kind", utoipa.document, '{"openapi":"3.0.3","info":{"title":"t","version":"1"},"paths":{}}')
+        self.refuses("word", utoipa.schema, '{"type":"text"}')
+        self.refuses("alternative", utoipa.schema, '{"type":"object","propertyNames":{"$ref":"#/a"}}')
+
+    def test_the_first_place_that_does_not_fit_is_told(self):
+        self.refuses("missing", utoipa.document, '{"openapi":5,"info":{"title":"t"},"paths":{}}')
+        self.refuses("missing", utoipa.merge, "[%s,{},5]" % FIRST)
+        self.refuses("kind", utoipa.conflicts, "[5,{}]")
 
     def test_another_number_of_documents_is_refused(self):
         self.refuses("empty", utoipa.merge, "[]")

@@ -54,8 +54,8 @@ class Refused(ValueError):
 
     It is `memory`, `text` (no JSON text), `fraction` (a number that is neither an i64 nor a u64), `missing` (a required member), `kind`,
     `word`, `alternative`, `empty` (no document to merge), `count` (not two documents to nest), or `base` or `name` (which is not UTF-8).
-    Which of `missing`, `kind`, `word` and `alternative` comes is not promised: each says that the text is JSON, with no fraction, and no
-    document of the kind that is read.
+    Each of `missing`, `kind`, `word` and `alternative` says that the text is JSON, with no fraction, and no document of the kind that is
+    read. Which of them comes tells the first place that does not fit.
     """
 
     word: str

@@ -111,8 +111,8 @@ mod library {
 
 /// Why a text has no answer.
 ///
-/// Which of `Missing`, `Kind`, `Word` and `Alternative` comes is not promised: each says that the text is JSON, with no fraction, and no
-/// document of the kind that is read.
+/// Each of `Missing`, `Kind`, `Word` and `Alternative` says that the text is JSON, with no fraction, and no document of the kind that is
+/// read. Which of them comes tells the first place that does not fit.
 #[derive(Clone, Copy, Debug, PartialEq, Eq, Hash)]
 pub enum Refusal {
     /// Memory ran out. This says nothing of the text.

@@ -88,9 +88,23 @@ fn a_text_that_is_no_document_is_refused() {
     assert_eq!(server(r#"{"url":5}"#), Err(Refusal::Kind));
     assert_eq!(
         document(r#"{"openapi":"3.0.3","info":{"title":"t","version":"1"},"paths":{}}"#),
-        Err(Refusal::Word)
+        Err(Refusal::Kind)
     );
-    assert_eq!(schema(r#"{"type":"text"}"#), Err(Refusal::Alternative));
+    assert_eq!(schema(r#"{"type":"text"}"#), Err(Refusal::Word));
+    assert_eq!(
+        schema(r##"{"type":"object","propertyNames":{"$ref":"#/a"}}"##),
+        Err(Refusal::Alternative)
+    );
+}
+
+#[test]
+fn the_first_place_that_does_not_fit_is_told() {
+    assert_eq!(
+        document(r#"{"openapi":5,"info":{"title":"t"},"paths":{}}"#),
+        Err(Refusal::Missing)
+    );
+    assert_eq!(merge(format!("[{FIRST},{{}},5]")), Err(Refusal::Missing));
+    assert_eq!(conflicts("[5,{}]"), Err(Refusal::Kind));
 }
 
 #[test]

@@ -5,12 +5,15 @@
 //! is too small for it, and one for each refusal. Nothing is written to the room but where the code is 0.
 #![tactic(auto)]
 
+mod why;
+
 ghost use Rattle.std.specs.Prelude.{◌≡◌, ◌≢◌, ◌<◌, ◌↔◌, length};
 ghost use Rattle.std.specs.Str.{IsUtf8};
 ghost use Rattle.utoipa_c.specs.Codes.{code_of, HasRoom, IsAnswered, IsRefused, IsToldOf, IsTooLong, IsWritten};
 ghost use Rattle.utoipa_c.specs.Documents.{IsNoList};
+ghost use Rattle.utoipa_command.specs.Answers.{IsCause, IsCauseOfText};
 ghost use Rattle.utoipa_command.specs.Commands.{server, schema, document, merge, nest, request_of};
-ghost use Rattle.utoipa_command.specs.Dropped.{AreConflicts};
+ghost use Rattle.utoipa_command.specs.Dropped.{AreConflicts, documents_kind};
 ghost use Rattle.utoipa_command.specs.Files.{document_kind};
 ghost use Rattle.utoipa_findings.specs.Told.{IsChecked};
 
@@ -18,6 +21,7 @@ use std::alloc::Global;
 use utoipa_command::answer::answer;
 use utoipa_command::files::{Source, check};
 use utoipa_command::{Command, Refusal, dropped};
+use why::{input_kind, list_kind, told};
 
 const DONE: u8 = 0;
 
@@ -29,7 +33,8 @@ const NAME: u8 = 14;
 
 // The code of a refusal.
 fn code(refusal: Refusal) -> u8
-    ensures { result ≡ code_of refusal }
+    ensures code { result ≡ code_of refusal }
+    ensures no_answer { 1 < result }
 {
     match refusal {
         Refusal::Memory => 2,
@@ -60,6 +65,22 @@ fn put(line: &[u8], room: &mut [u8], needed: &mut usize) -> u8
     DONE
 }
 
+// The code of a text that a command refuses: of its first misfit, where it has a tree that does not fit.
+fn code_of_text(alloc: Global, command: Command, text: &[u8], refusal: Refusal) -> u8
+    ensures refused { IsCause (request_of command.entry) text.now refusal → IsRefused (request_of command.entry) text.now result }
+    ensures no_answer { 1 < result }
+{
+    code(told(alloc, input_kind(command), text, refusal))
+}
+
+// The same of a text that is to be a list of documents.
+fn code_of_list(alloc: Global, text: &[u8], refusal: Refusal) -> u8
+    ensures refused { IsCauseOfText documents_kind text.now refusal → IsNoList text.now result }
+    ensures no_answer { 1 < result }
+{
+    code(told(alloc, list_kind(), text, refusal))
+}
+
 // Answers a text by a command.
 fn serve(alloc: Global, command: Command, text: &[u8], room: &mut [u8], needed: &mut usize) -> u8
     ensures done { result ≡ 0 → IsAnswered (request_of command.entry) text.now room.old room.new needed.new }
@@ -70,14 +91,15 @@ fn serve(alloc: Global, command: Command, text: &[u8], room: &mut [u8], needed: 
 {
     match answer(alloc, command, text) {
         Ok(line) => put(line.as_slice(), room, needed),
-        Err(refusal) => code(refusal),
+        Err(refusal) => code_of_text(alloc, command, text, refusal),
     }
 }
 
 /// Reads a Server Object (OpenAPI 3.1, section 4.8.5) and writes it, on a line.
 ///
 /// The code is 0 where the answer is written to the front of the room, and `needed` is its length; 1 where the room is smaller than
-/// `needed`, the length of the answer; else that of why the text is refused.
+/// `needed`, the length of the answer; else that of why the text is refused. A text that is JSON and no such object is refused for the first
+/// place that does not fit, in the order in which [`utoipa_check`] tells them.
 #[unsafe(no_mangle)]
 pub extern "C" fn utoipa_server(
     alloc: Global,
@@ -230,6 +252,6 @@ pub extern "C" fn utoipa_conflicts(
 {
     match dropped(alloc, text) {
         Ok(lines) => put(lines.as_bytes(), room, needed),
-        Err(refusal) => code(refusal),
+        Err(refusal) => code_of_list(alloc, text, refusal),
     }
 }

@@ -1,10 +1,10 @@
 -- Where a reference leads, by its text and by the tree of the document that it stands in.
-use Rattle.std.specs.Prelude.{ℕ, List, [], ◌∷◌, ◌==◌, ◌&&◌, ◌||◌, Bool, true, false, not, nat_lt, if◌then◌else◌, Option, None, Some, option_and_then, codes}
+use Rattle.std.specs.Prelude.{◌≡◌, ℕ, List, [], ◌∷◌, ◌==◌, ◌&&◌, ◌||◌, Bool, true, false, not, nat_lt, if◌then◌else◌, Option, None, Some, is_some, codes}
 use Rattle.std.specs.List.{list_any}
-use Rattle.std.specs.Str.{is_utf8}
-use Rattle.percent_encoding.specs.Percent.{percent_decode}
 use Rattle.serde_json.specs.Data.{Data}
-use Rattle.serde_json.specs.Find.{get, pointer}
+use Rattle.serde_json.specs.Find.{pointer}
+use Rattle.utoipa_base.specs.References.{Target, elsewhere, nowhere, place, target_of, component, component_of, component_map_text}
+use Rattle.utoipa_base.specs.declared.refs.component.ComponentMap.{ComponentMap}
 
 -- what has become of a reference
 pub data State : Type 0 where
@@ -21,30 +21,17 @@ leads (Some d) = resolved
 
 -- ---- references
 
--- whether a text is a JSON Pointer (RFC 6901, section 3): empty, or of tokens each after a `/`
-abbrev pub is_pointer : List ℕ → Bool
-is_pointer [] = true
-is_pointer (c ∷ cs) = c == 47
+-- by where the text leads
+abbrev pub target_state : Target → Data → State
+target_state elsewhere d = external
+target_state nowhere d = dangling
+target_state (place bs) d = leads (pointer bs d)
 
--- by a text without escapes: a JSON Pointer, whose `~1` and `~0` stand for `/` and `~` (RFC 6901, section 4); any other text names no
--- place by its path
-abbrev pub pointer_state : List ℕ → Data → State
-pointer_state bs d = if is_pointer bs then leads (pointer bs d) else external
-
--- by a fragment that has been percent-decoded (RFC 6901, section 6): no place has a name that is not UTF-8
-abbrev pub fragment_state : List ℕ → Data → State
-fragment_state bs d = if is_utf8 bs then pointer_state bs d else dangling
-
--- `#` and a fragment, which is percent-decoded (RFC 3986, section 2.1), is local; any other reference is not
+-- Which texts are local, and where they lead, is a definition of utoipa_base: the one by which `component` of a Ref finds its component.
 abbrev pub reference_state : List ℕ → Data → State
-reference_state [] d = external
-reference_state (c ∷ cs) d = if c == 35 then fragment_state (percent_decode cs) d else external
+reference_state s d = target_state (target_of s) d
 
 -- ---- names
-
--- an entry of a map of the components (Components Object: OpenAPI 3.1, section 4.8.7)
-abbrev pub component : List ℕ → List ℕ → Data → Option Data
-component map_name name d = option_and_then (get name) (option_and_then (get map_name) (get (codes "components") d))
 
 -- a letter of a component's name: `a` to `z`, `A` to `Z`, `0` to `9`, `.`, `-` or `_`
 abbrev pub is_name_letter : ℕ → Bool
@@ -78,3 +65,12 @@ abbrev pub state : Way → List ℕ → Data → State
 state by_reference s d = reference_state s d
 state by_mapping s d = mapping_state s d
 state by_requirement s d = requirement_state s d
+
+-- ---- components
+
+-- a text leads to a component by the definition of utoipa_base, and the tree has that component
+pub record LeadsToComponent (s : List ℕ) (d : Data) : Type 0 where
+  pub map : ComponentMap
+  pub name : List ℕ
+  pub led : component_of s ≡ Some (map, name)
+  pub stands : is_some (component (component_map_text map) name d) ≡ true

@@ -3,6 +3,7 @@ ghost use Rattle.std.specs.Prelude.{◌≡◌, IfOk, codes, option_map};
 ghost use Rattle.serde_json.specs.View.{view};
 ghost use Rattle.utoipa_check.specs.ReferenceViews.{state_of, way_of};
 ghost use Rattle.percent_encoding.specs.Percent.{percent_decode as decoded};
+ghost use Rattle.utoipa_base.specs.References.{component as entry, target_of_fragment, target_of_text};
 ghost use Rattle.utoipa_check.specs.Referring as specs;
 
 use percent_encoding::{DecodeError, percent_decode};
@@ -44,7 +45,7 @@ fn leads(found: Option<&Value>) -> State
 
 /// What has become of a reference whose fragment has no escapes (RFC 6901, section 6).
 fn pointer_state(pointer: &str, tree: &Value) -> State
-    ensures { state_of result ≡ specs.pointer_state pointer.now (view tree.now) }
+    ensures { state_of result ≡ specs.target_state (target_of_text pointer.now) (view tree.now) }
 {
     if pointer.is_empty() || pointer.starts_with('/') {
         return leads(tree.pointer(pointer));
@@ -54,7 +55,8 @@ fn pointer_state(pointer: &str, tree: &Value) -> State
 
 /// What has become of a reference, by the fragment, of which the escapes are read here (RFC 6901, section 6). Fails where memory runs out.
 fn fragment_state(alloc: Global, fragment: &str, tree: &Value) -> Result<State, AllocError>
-    ensures { IfOk result (λ s. state_of s ≡ specs.fragment_state (decoded fragment.now) (view tree.now)) }
+    ensures { IfOk result (λ s. state_of s
+        ≡ specs.target_state (target_of_fragment (decoded fragment.now)) (view tree.now)) }
 {
     match percent_decode(fragment.as_bytes()).decode_utf8(alloc) {
         Ok(pointer) => Ok(pointer_state(&pointer, tree)),
@@ -77,7 +79,7 @@ pub fn reference_state(alloc: Global, text: &str, tree: &Value) -> Result<State,
 
 /// An entry of a map of the components (Components Object: OpenAPI 3.1, section 4.8.7).
 fn component<'t>(map_name: &str, name: &str, tree: &'t Value) -> Option<&'t Value>
-    ensures { option_map (λ v. view v.now) result ≡ specs.component map_name.now name.now (view tree.now) }
+    ensures { option_map (λ v. view v.now) result ≡ entry map_name.now name.now (view tree.now) }
 {
     let Some(components) = tree.get("components") else {
         return None;

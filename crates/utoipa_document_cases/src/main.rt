@@ -29,6 +29,7 @@
 //! | `component-from TYPE` | a JSON text | what the components are written as, once the schema or the response of the type was put |
 //! | `schemas-from TYPE` | a JSON text | what the components are written as, once the schema of the type was put, and those that it refers to |
 //! | `own-schema` | `fields`, `fields of one name`, `no fields`, `texts` or `reference` | what the schema is written as that is made of such |
+//! | `schema-in` | two JSON texts: components, a schema or a reference | what the schema is written as that stands there or that the reference leads to; `none` where there is none |
 //! | `operations` | a JSON text, a document | the operations of its paths: of each the method, the path and the id, with `; ` behind it; `none` where there is none |
 //! | `operation-by-id ID` | a JSON text, a document | the operation of its paths that has the id, in the same way, or `none` |
 //! | `callbacks` | a number | `true`, where an operation in so many callbacks, one in the other, is kept |
@@ -52,6 +53,7 @@ mod made;
 mod merged;
 mod nested;
 mod own;
+mod resolved;
 mod runs;
 mod types;
 
@@ -85,6 +87,7 @@ fn answer_to_call(alloc: Global, call: &Call<'_>) -> Result<String, AllocError> 
         "merge-pairs" => documents::merged_in_pairs(alloc, call.subject(), call.given),
         "composed" => documents::nested_by_rule(alloc, call.subject(), call.given),
         "add" => merged::with_operation(alloc, call.subject(), call.given),
+        "schema-in" => resolved::schema_in(alloc, call.given),
         "operations" => listed::operations_of(alloc, call.given),
         "operation-by-id" => listed::operation_of_id(alloc, call.subject(), call.given),
         "callbacks" => nested::callbacks_kept(alloc, call.given),
