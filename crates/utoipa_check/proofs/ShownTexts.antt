@@ -40,12 +40,12 @@ seen_is_one_line c s h = record {
 abbrev pub is_printed : ℕ → Bool
 is_printed c = nat_lt 31 c && nat_lt c 127
 
-printed_is_seen : (c : ℕ) → is_printed c ≡ true → is_hidden c ≡ false
+pub printed_is_seen : (c : ℕ) → is_printed c ≡ true → is_hidden c ≡ false
 printed_is_seen c p =
     let parts = and_parts (nat_lt 31 c) (nat_lt c 127) p in
     agree_below_at is_hidden (λ d. nat_lt d 32) 127 c refl (ltb-true c 127 parts.1) ∙ le-ltb c 32 (ltb-true 31 c parts.0)
 
-printed_byte : (c : ℕ) → is_printed c ≡ true → IsOneLine (c ∷ [])
+pub printed_byte : (c : ℕ) → is_printed c ≡ true → IsOneLine (c ∷ [])
 printed_byte c p =
     let high : c < 128 = omega (arith, ltb-true c 127 (and_parts (nat_lt 31 c) (nat_lt c 127) p).1) in
     subst IsOneLine (encode_ascii c high) (seen_is_one_line c (low_scalar c (omega arith)) (printed_is_seen c p))
@@ -128,7 +128,7 @@ shown_by_chars text u = cond-true (is_utf8 text) _ _ (is_utf8-from_IsUtf8 text u
 
 -- ---- what is meant
 
-printed_chars : (bs : List ℕ) → list_all is_printed bs ≡ true → chars bs ≡ bs
+pub printed_chars : (bs : List ℕ) → list_all is_printed bs ≡ true → chars bs ≡ bs
 printed_chars [] p = chars-nil
 printed_chars (b ∷ bs) p =
     let parts = and_parts (is_printed b) (list_all is_printed bs) p in
