@@ -51,7 +51,7 @@ before_end text rest h e = record {
 -- ---- lines
 
 pub lines_of_each : {X : Type 0} (f : X → List ℕ) → ((x : X) → IsEnded (f x)) → (xs : List X) → AreLines (length xs) (flat_map f xs)
-lines_of_each f h xs = record {
+lines_of_each {X} f h xs = record {
   lines = map (λ x. (h x).line) xs;
   count = length-map xs (λ x. (h x).line);
   each = All-map IsOneLine (λ x. (h x).line) xs (λ k d less. (h (get_or xs k d)).one_line);
@@ -66,6 +66,6 @@ pub one_line_told : (text : List ℕ) → IsEnded text → AreLines 1 text
 one_line_told text e = record {
   lines = e.line ∷ [];
   count = refl;
-  each = All-map IsOneLine (λ x. e.line) ([] ∷ []) (λ k d less. e.one_line);
+  each = All-map IsOneLine (λ x. e.line) (0 ∷ []) (λ k d less. e.one_line);
   are = append-nil (ended e.line) ∙ e.ends;
 }
