@@ -1,5 +1,5 @@
 -- What is said of a place is on one line.
-use Rattle.std.proofs.Common.{◌≡◌, ℕ, List, [], ◌∷◌, ◌++◌, Bool, true, codes, refl}
+use Rattle.std.proofs.Common.{◌≡◌, ℕ, List, [], ◌∷◌, ◌++◌, true, codes, refl}
 use Rattle.std.specs.List.{flat_map, list_all}
 use Rattle.utoipa_base.specs.Kinds.{Kind, text, flag, whole, numeral, any, word_of, version, list_of, map_of, ordered_map_of, entries_of, ref_or, named, schema, schema_type, schema_format, array_items, additional_properties, security_scheme, api_key, flows, ObjectType, open_api_object, info_object, contact_object, license_object, server_object, server_variable_object, components_object, path_item_object, operation_object, external_docs_object, parameter_object, request_body_object, media_type_object, encoding_object, response_object, example_object, link_object, header_object, tag_object, reference_object, discriminator_object, xml_object, one_of_schema, all_of_schema, any_of_schema, array_schema, object_schema, api_key_scheme, http_scheme, open_id_connect_scheme, mutual_tls_scheme, oauth2_scheme, implicit_flow, password_flow, client_credentials_flow, authorization_code_flow, device_authorization_flow, scopes_object}
 use Rattle.utoipa_tables.specs.Titles.{type_title}
@@ -14,11 +14,14 @@ use Rattle.utoipa_check.proofs.ShownPointers.{pointer_line}
 use Rattle.utoipa_check.proofs.ShownTexts.{is_printed, printed, nothing_is_one_line, one_line_append, shown_line}
 
 -- a text behind words, and words behind it
-pub behind : (words text : List ℕ) → list_all is_printed words ≡ true → IsOneLine text → IsOneLine (words ++ text)
-behind words text p t = one_line_append words text (printed words p) t
+pub behind : (words body : List ℕ) → list_all is_printed words ≡ true → IsOneLine body → IsOneLine (words ++ body)
+behind words body p h = one_line_append words body (printed words p) h
 
-pub among : (before text after : List ℕ) → list_all is_printed before ≡ true → IsOneLine text → list_all is_printed after ≡ true → IsOneLine (before ++ text ++ after)
-among before text after p t q = behind before (text ++ after) p (one_line_append text after t (printed after q))
+pub before_words : (body words : List ℕ) → IsOneLine body → list_all is_printed words ≡ true → IsOneLine (body ++ words)
+before_words body words h p = one_line_append body words h (printed words p)
+
+pub among : (before body after : List ℕ) → list_all is_printed before ≡ true → IsOneLine body → list_all is_printed after ≡ true → IsOneLine (before ++ body ++ after)
+among before body after p h q = one_line_append (before ++ body) after (behind before body p h) (printed after q)
 
 pub each_line : {X : Type 0} (f : X → List ℕ) → ((x : X) → IsOneLine (f x)) → (xs : List X) → IsOneLine (flat_map f xs)
 each_line f h [] = nothing_is_one_line
@@ -114,7 +117,7 @@ cause_line (no_alternative ks) = behind (codes "this is not ") (kinds_text ks) r
 cause_line fraction = printed (codes "the number is not an integer of 64 bits") refl
 
 pub misfit_line : (m : Misfit) → IsOneLine (misfit_text m)
-misfit_line m = one_line_append (shown_pointer m.0) (codes ": " ++ cause_text m.1) (pointer_line m.0) (behind (codes ": ") (cause_text m.1) refl (cause_line m.1))
+misfit_line m = one_line_append (shown_pointer m.0 ++ codes ": ") (cause_text m.1) (before_words (shown_pointer m.0) (codes ": ") (pointer_line m.0) refl) (cause_line m.1)
 
 state_line : (s : State) → IsOneLine (state_text s)
 state_line dangling = printed (state_text dangling) refl
@@ -123,9 +126,10 @@ state_line external = printed (state_text external) refl
 
 pub reference_line : (r : Reference) → IsOneLine (reference_text r)
 reference_line r =
-    one_line_append (shown_pointer r.0.0) (codes ": `" ++ shown r.0.1.1 ++ codes "` " ++ state_text r.1) (pointer_line r.0.0)
-    (behind (codes ": `") (shown r.0.1.1 ++ codes "` " ++ state_text r.1) refl
-    (one_line_append (shown r.0.1.1) (codes "` " ++ state_text r.1) (shown_line r.0.1.1) (behind (codes "` ") (state_text r.1) refl (state_line r.1))))
+    let place = before_words (shown_pointer r.0.0) (codes ": `") (pointer_line r.0.0) refl in
+    let mentioned = one_line_append (shown_pointer r.0.0 ++ codes ": `") (shown r.0.1.1) place (shown_line r.0.1.1) in
+    one_line_append (shown_pointer r.0.0 ++ codes ": `" ++ shown r.0.1.1 ++ codes "` ") (state_text r.1)
+    (before_words (shown_pointer r.0.0 ++ codes ": `" ++ shown r.0.1.1) (codes "` ") mentioned refl) (state_line r.1)
 
 loss_line : (l : losses.Loss) → IsOneLine (loss_text l)
 loss_line losses.absent = printed (loss_text losses.absent) refl
@@ -133,4 +137,4 @@ loss_line losses.left_out = printed (loss_text losses.left_out) refl
 loss_line losses.changed = printed (loss_text losses.changed) refl
 
 pub dropped_line : (d : losses.Dropped) → IsOneLine (dropped_text d)
-dropped_line d = one_line_append (shown_pointer d.0) (codes ": " ++ loss_text d.1) (pointer_line d.0) (behind (codes ": ") (loss_text d.1) refl (loss_line d.1))
+dropped_line d = one_line_append (shown_pointer d.0 ++ codes ": ") (loss_text d.1) (before_words (shown_pointer d.0) (codes ": ") (pointer_line d.0) refl) (loss_line d.1)

@@ -1,5 +1,5 @@
 -- The steps of a pointer that is shown.
-use Rattle.std.proofs.Common.{◌≡◌, ◌∙◌, ℕ, ◌^◌, ◌<◌, List, [], ◌∷◌, ◌++◌, ◌==◌, ◌&&◌, ◌||◌, not, Bool, true, false, if◌then◌else◌, codes, decimal, refl, sym, ap, arith, nat_lt}
+use Rattle.std.proofs.Common.{◌≡◌, ◌∙◌, ℕ, ◌^◌, ◌<◌, ◌≤◌, List, [], ◌∷◌, ◌++◌, ◌==◌, ◌&&◌, ◌||◌, not, Bool, true, false, if◌then◌else◌, codes, decimal, refl, sym, ap, arith, nat_lt, nat_le}
 use Rattle.std.specs.Char.{IsScalar, encode_utf8, is_ascii_digit}
 use Rattle.std.specs.List.{flat_map, list_all}
 use Rattle.std.specs.Str.{IsUtf8, chars, all_scalars, all_ascii_digits}
@@ -44,7 +44,7 @@ plain_text bs p = ap (flat_map shown_char) (printed_chars bs (plain_is_printed b
 
 digit_is_plain : (c : ℕ) → is_ascii_digit c ≡ true → is_plain c ≡ true
 digit_is_plain c d =
-    let most = leb-true c 57 (and_parts _ _ d).1 in
+    let most : c ≤ 57 = leb-true c 57 (and_parts (nat_le 48 c) (nat_le c 57) d).1 in
     let less : c < 58 = omega (arith, most) in
     ap (λ b. not b || is_plain c) (sym d) ∙ agree_below_at (λ e. not (is_ascii_digit e) || is_plain e) (λ e. true) 58 c refl less
 

@@ -1,5 +1,5 @@
 -- Texts that are shown: each is one line, and what is meant by it can be had back.
-use Rattle.std.proofs.Common.{◌≡◌, ◌⊎◌, inl, inr, ◌∙◌, ℕ, suc, ◌+◌, ◌*◌, ◌/◌, ◌%◌, ◌<◌, ◌≤◌, List, [], ◌∷◌, ◌++◌, ◌==◌, ◌||◌, ◌&&◌, not, Bool, true, false, if◌then◌else◌, codes, length, refl, sym, ap, subst, arith, append_assoc, nat_lt, nat_le}
+use Rattle.std.proofs.Common.{◌≡◌, ◌⊎◌, inl, inr, ◌∙◌, ℕ, ◌+◌, ◌*◌, ◌/◌, ◌%◌, ◌<◌, List, [], ◌∷◌, ◌++◌, ◌==◌, ◌||◌, ◌&&◌, not, Bool, true, false, codes, refl, sym, ap, subst, arith, nat_lt, nat_le}
 use Rattle.std.specs.Char.{IsScalar, encode_utf8, digit_char, digit_value, is_control}
 use Rattle.std.specs.Char.Escape.{hex_digit_at}
 use Rattle.std.specs.Int.{is_in_range}
@@ -9,9 +9,8 @@ use Rattle.std.proofs.Math.Utf8.{low_scalar}
 use Rattle.std.proofs.lemmas.Bool.{and_parts, and_from, or_cases, leb-true, ltb-true, eqb-true, le-ltb, cond_both, cond-true, cond-false, agree_below_at, not_from_false}
 use Rattle.std.proofs.lemmas.List.{append-nil}
 use Rattle.std.proofs.lemmas.List.Folds.{list_all-append}
-use Rattle.std.proofs.lemmas.Grind.{flat_map-append}
 use Rattle.std.proofs.lemmas.Str.{IsUtf8-append, IsUtf8-nil, IsUtf8-encode, chars-append, chars-nil, chars-encodes, encodes-chars, scalars-chars, encode_ascii, is_utf8-from_IsUtf8, IsUtf8-from_is_utf8, digit_value-digit_char}
-use Rattle.utoipa_check.specs.Shown.{is_hidden, hex_digit, by_number, hidden_char, shown_char, shown, Reading, between, behind_backslash, in_number, letter_meant, with_digit, letters_meant, meant, IsOneLine}
+use Rattle.utoipa_check.specs.Shown.{is_hidden, hex_digit, by_number, hidden_char, shown_char, shown, between, with_digit, letters_meant, meant, IsOneLine}
 
 -- ---- texts on one line
 

@@ -1,5 +1,5 @@
 -- Texts that are lines, put together of pieces in which nothing is hidden.
-use Rattle.std.proofs.Common.{◌≡◌, ◌∙◌, ℕ, zero, suc, ◌/◌, ◌%◌, ◌<◌, List, [], ◌∷◌, ◌++◌, ◌==◌, Bool, true, false, All, codes, decimal, length, map, get_or, refl, sym, ap, arith, append_assoc}
+use Rattle.std.proofs.Common.{◌≡◌, ◌∙◌, ℕ, zero, suc, ◌/◌, ◌%◌, ◌<◌, List, [], ◌∷◌, ◌++◌, ◌==◌, true, false, codes, decimal, length, map, get_or, refl, ap, arith, append_assoc}
 use Rattle.std.specs.Fmt.{digits, digits_onto, digit_glyph}
 use Rattle.std.specs.List.{flat_map, list_all}
 use Rattle.std.proofs.lemmas.Bool.{and_from, cond_both, agree_below_at}
@@ -7,7 +7,7 @@ use Rattle.std.proofs.lemmas.List.{append-nil, length-map}
 use Rattle.std.proofs.lemmas.List.Elements.{All-map}
 use Rattle.std.proofs.lemmas.List.Folds.{flat_map-map}
 use Rattle.utoipa_check.specs.Shown.{IsOneLine, ended, AreLines}
-use Rattle.utoipa_check.proofs.ShownTexts.{is_printed, printed, nothing_is_one_line, one_line_append}
+use Rattle.utoipa_check.proofs.ShownTexts.{is_printed, printed, one_line_append}
 
 -- ---- numbers
 
@@ -66,6 +66,6 @@ pub one_line_told : (text : List ℕ) → IsEnded text → AreLines 1 text
 one_line_told text e = record {
   lines = e.line ∷ [];
   count = refl;
-  each = All-map IsOneLine (λ x. e.line) (0 ∷ []) (λ k d less. e.one_line);
+  each = All-map {X = List ℕ} IsOneLine {Y = List ℕ} (λ x. e.line) ([] ∷ []) (λ k d less. e.one_line);
   are = append-nil (ended e.line) ∙ e.ends;
 }

@@ -3,9 +3,9 @@ use Rattle.std.proofs.Common.{◌≡◌, ℕ, List, ◌++◌, codes, decimal, le
 use Rattle.std.specs.List.{flat_map}
 use Rattle.utoipa_check.specs.Pointers.{shown_pointer}
 use Rattle.utoipa_check.specs.Shown.{shown, IsOneLine, AreLines}
-use Rattle.utoipa_check.proofs.SaidOnLines.{behind}
+use Rattle.utoipa_check.proofs.SaidOnLines.{before_words}
 use Rattle.utoipa_check.proofs.ShownPointers.{pointer_line}
-use Rattle.utoipa_check.proofs.ShownTexts.{printed, one_line_append, shown_line}
+use Rattle.utoipa_check.proofs.ShownTexts.{one_line_append, shown_line}
 use Rattle.utoipa_check.proofs.WholeLines.{decimal_line, end_of, lines_of_each}
 use Rattle.utoipa_conflicts.specs.Conflicts.{Conflict}
 use Rattle.utoipa_conflicts.specs.Merged.{Told}
@@ -13,11 +13,10 @@ use Rattle.utoipa_conflicts.specs.Texts.{conflict_said, conflict_text, told_text
 
 said_line : (place : List ℕ) (kept dropped : ℕ) → IsOneLine place → IsOneLine (conflict_said place kept dropped)
 said_line place kept dropped h =
-    let last = one_line_append (decimal kept) (codes " decides") (decimal_line kept) (printed (codes " decides") refl) in
-    let more = behind (codes "'s value is dropped, since document ") (decimal kept ++ codes " decides") refl last in
-    let rest = codes "'s value is dropped, since document " ++ decimal kept ++ codes " decides" in
-    one_line_append place (codes ": document " ++ decimal dropped ++ rest) h
-    (behind (codes ": document ") (decimal dropped ++ rest) refl (one_line_append (decimal dropped) rest (decimal_line dropped) more))
+    let first = one_line_append (place ++ codes ": document ") (decimal dropped) (before_words place (codes ": document ") h refl) (decimal_line dropped) in
+    let both = before_words (place ++ codes ": document " ++ decimal dropped) (codes "'s value is dropped, since document ") first refl in
+    let second = one_line_append (place ++ codes ": document " ++ decimal dropped ++ codes "'s value is dropped, since document ") (decimal kept) both (decimal_line kept) in
+    before_words (place ++ codes ": document " ++ decimal dropped ++ codes "'s value is dropped, since document " ++ decimal kept) (codes " decides") second refl
 
 pub conflict_line : (c : Conflict) → IsOneLine (conflict_text c)
 conflict_line c = said_line (shown_pointer c.0) c.1 c.2 (pointer_line c.0)

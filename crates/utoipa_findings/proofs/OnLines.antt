@@ -9,7 +9,7 @@ use Rattle.utoipa_check.specs.Misfits.{Step}
 use Rattle.utoipa_check.specs.Pointers.{shown_pointer}
 use Rattle.utoipa_check.specs.Said.{cause_text}
 use Rattle.utoipa_check.specs.Shown.{shown, IsOneLine, AreLines}
-use Rattle.utoipa_check.proofs.SaidOnLines.{among, behind, cause_line}
+use Rattle.utoipa_check.proofs.SaidOnLines.{among, behind, before_words, cause_line}
 use Rattle.utoipa_check.proofs.ShownPointers.{pointer_line}
 use Rattle.utoipa_check.proofs.ShownTexts.{printed, nothing_is_one_line, one_line_append, shown_line}
 use Rattle.utoipa_check.proofs.WholeLines.{IsEnded, decimal_line, end_of, printed_end, before_end, lines_of_each, one_line_told}
@@ -38,9 +38,8 @@ place_line (s ∷ ss) = one_line_append (shown_pointer (s ∷ ss)) (codes ": ") 
 
 finding_ended : (name : List ℕ) (f : Finding) → IsEnded (finding_line name f)
 finding_ended name f =
-    before_end (shown name) (codes ": " ++ finding_text f ++ codes "\n") (shown_line name)
-    (before_end (codes ": ") (finding_text f ++ codes "\n") (printed (codes ": ") refl)
-    (end_of (finding_text f) (one_line_append (place_text f.0) (what_text f.1) (place_line f.0) (what_line f.1))))
+    let said = one_line_append (place_text f.0) (what_text f.1) (place_line f.0) (what_line f.1) in
+    end_of (shown name ++ codes ": " ++ finding_text f) (one_line_append (shown name ++ codes ": ") (finding_text f) (before_words (shown name) (codes ": ") (shown_line name) refl) said)
 
 pub findings_are_lines : (name : List ℕ) (fs : List Finding) → AreLines (length fs) (lines_of name fs)
 findings_are_lines name fs = lines_of_each (finding_line name) (finding_ended name) fs
