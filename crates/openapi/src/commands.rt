@@ -5,6 +5,7 @@ use crate::progress::Progress;
 use anyhow::Result;
 use clap::ArgMatches;
 use std::process::ExitCode;
+use utoipa_check::Shown;
 use utoipa_command::files;
 use utoipa_command::files::{Layout, Refusal, Source};
 
@@ -60,6 +61,7 @@ fn read(rt: &HostRuntime, name: &str) -> Result<Option<Vec<u8>>> {
     match bytes_of(rt, name) {
         Ok(bytes) => Ok(Some(bytes)),
         Err(error) => {
+            let name = Shown(name);
             eprintln!(rt; "{name}: {error:#}")?;
             Ok(None)
         }

@@ -4,6 +4,7 @@ use anyhow::{Context, Result};
 use std::fs::{File, Metadata};
 use std::io::{Read, Write};
 use std::{fs, io, process};
+use utoipa_check::Shown;
 
 /// All that stands in a file, or in standard input where the name is `-`.
 pub fn bytes_of(rt: &HostRuntime, name: &str) -> Result<Vec<u8>> {
@@ -19,7 +20,10 @@ pub fn bytes_of(rt: &HostRuntime, name: &str) -> Result<Vec<u8>> {
 pub fn write(rt: &HostRuntime, output: Option<&str>, text: &str) -> Result<()> {
     match output {
         Some("-") | None => write_standard(rt, text).context("standard output"),
-        Some(name) => write_file(rt, name, text).context(format_args!("{name} is not written")),
+        Some(name) => {
+            let shown = Shown(name);
+            write_file(rt, name, text).context(format_args!("{shown} is not written"))
+        }
     }
 }
 

@@ -12,7 +12,11 @@ pub mod ReferenceObjects
 pub mod Fewer
 pub mod Walks
 pub mod Reports
+pub mod ShownTexts
 pub mod Pointers
+pub mod ShownPointers
+pub mod SaidOnLines
+pub mod WholeLines
 pub mod DroppedWalks
 pub mod DroppedHas
 pub mod DroppedPlaces

@@ -4,6 +4,7 @@ pub mod Version
 pub mod Places
 pub mod Views
 pub mod Rows
+pub mod Shown
 pub mod Pointers
 pub mod Said
 pub mod Dropped

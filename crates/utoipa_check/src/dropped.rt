@@ -15,15 +15,17 @@ ghost use Rattle.utoipa_base.specs.Reading.{read};
 ghost use Rattle.utoipa_base.specs.Values.{values};
 ghost use Rattle.utoipa_check.specs.Dropped as specs;
 ghost use Rattle.utoipa_check.specs.Moves as walk;
-ghost use Rattle.utoipa_check.specs.DroppedViews.{loss_of, all_dropped, stacked, moves_of, move_of, path_of};
+ghost use Rattle.utoipa_check.specs.DroppedViews.{loss_of, dropped_of, all_dropped, stacked, moves_of, move_of, path_of};
 ghost use Rattle.utoipa_check.specs.Has.{Has, IsKept};
 ghost use Rattle.utoipa_check.specs.IsDropped.{IsDropped, IsListed};
 ghost use Rattle.utoipa_check.specs.Misfits.{Step as StepOf};
+ghost use Rattle.utoipa_check.specs.Said.{dropped_text, loss_text};
 ghost use Rattle.utoipa_check.specs.Views.{step_of};
 
 use crate::head::{is_alike, is_empty};
 use crate::misfit::{Pointer, Step};
 use crate::moves::{Move, push_inner};
+use crate::pointer::ShownPointer;
 use serde_json::Value;
 use std::alloc::{AllocError, Global};
 use std::fmt;
@@ -179,6 +181,8 @@ pub fn dropped_by<'t, T: Tree>(
 }
 
 impl fmt::Display for Loss {
+    ghost output = { λ x. Some (loss_text (loss_of x)) };
+
     fn fmt<W: fmt::Write>(&self, f: &mut fmt::Formatter<W>) -> fmt::Result {
         match self {
             Loss::Absent => write!(f, "absent"),
@@ -190,8 +194,10 @@ impl fmt::Display for Loss {
 
 /// The JSON Pointer of the place, and what has become of the tree there.
 impl fmt::Display for Dropped<'_> {
+    ghost output = { λ x. Some (dropped_text (dropped_of x)) };
+
     fn fmt<W: fmt::Write>(&self, f: &mut fmt::Formatter<W>) -> fmt::Result {
-        let pointer = &self.pointer;
+        let pointer = ShownPointer(&self.pointer);
         let loss = self.loss;
         write!(f, "{pointer}: {loss}")
     }

@@ -1,16 +1,26 @@
-//! The laws of misfits and of references, of every kind and every tree.
-ghost use Rattle.std.specs.Prelude.{◌≡◌, ◌≢◌, ◌&&◌, not, is_some, List, ℕ, Some};
+//! The laws of misfits, of doubts and of references, of every kind and every tree, and of what is shown.
+ghost use Rattle.std.specs.Prelude.{◌≡◌, ◌≢◌, ◌&&◌, ℕ, List, [], not, is_some, Some};
 ghost use Rattle.std.specs.List.{AllByRecursion};
+ghost use Rattle.std.specs.Str.{IsUtf8};
 ghost use Rattle.serde_json.specs.View.{view};
 ghost use Rattle.serde_json.specs.Written.{has_float};
+ghost use Rattle.utoipa_base.specs.Docs.{Doc};
 ghost use Rattle.utoipa_base.specs.Kinds.{Kind};
 ghost use Rattle.utoipa_base.specs.Reading.{read};
 ghost use Rattle.utoipa_base.specs.References.{component, component_map_text, component_of, field_of_components, IsNoList};
+ghost use Rattle.utoipa_base.specs.WellFormed.{IsUnambiguous, IsWellFormed, ReadsAs};
+ghost use Rattle.utoipa_base.specs.Writing.{write};
 ghost use Rattle.utoipa_base.specs.declared.refs.component.ComponentMap.{ComponentMap};
-ghost use Rattle.utoipa_check.specs.Misfits.{misfits, misfits_and_fractions, is_fit};
-ghost use Rattle.utoipa_check.specs.References.{references};
+ghost use Rattle.utoipa_check.specs.Doubts.{doubts};
+ghost use Rattle.utoipa_check.specs.Dropped.{Dropped};
+ghost use Rattle.utoipa_check.specs.Misfits.{Step, Misfit, misfits, misfits_and_fractions, is_fit};
+ghost use Rattle.utoipa_check.specs.Pointers.{shown_pointer};
+ghost use Rattle.utoipa_check.specs.References.{Reference, references};
 ghost use Rattle.utoipa_check.specs.Referring.{by_requirement, leads, LeadsToComponent, reference_state, resolved};
+ghost use Rattle.utoipa_check.specs.Said.{misfit_text, reference_text, dropped_text};
+ghost use Rattle.utoipa_check.specs.Shown.{shown, meant, IsOneLine};
 ghost use Rattle.utoipa_check.specs.Truth.{AllTrue};
+ghost use Rattle.utoipa_check.specs.Within.{IsWithin};
 
 use serde_json::Value;
 
@@ -21,6 +31,23 @@ pub fn misfits_are_exact(tree: &Value)
     ensures exact_with_fractions { (k : Kind) → is_fit (misfits_and_fractions k (view tree.now))
         ≡ is_some (read k (view tree.now)) && not (has_float (view tree.now)) }
     ensures sound_with_fractions { (k : Kind) → AllTrue k (view tree.now) (misfits_and_fractions k (view tree.now)) }
+{
+    let _tree = tree;
+}
+
+/// A document in which nothing is in doubt is unambiguous, and of a plain tree it is well-formed: it reads back from its own tree.
+pub fn without_doubts_well_formed(tree: &Value)
+    ensures well_formed { (k : Kind) → (d : Doc) → doubts k (view tree.now) ≡ [] → ReadsAs k (view tree.now) d → IsWellFormed d }
+    ensures with_fractions { (k : Kind) → (d : Doc) → doubts k (view tree.now) ≡ [] → read k (view tree.now) ≡ Some d
+        → IsUnambiguous d }
+{
+    let _tree = tree;
+}
+
+/// A document that was read of a tree is written with no place besides those of the tree, but that external docs without a `description` are
+/// written with null there.
+pub fn nothing_is_written_besides(tree: &Value)
+    ensures { (k : Kind) → (d : Doc) → read k (view tree.now) ≡ Some d → IsWithin (write d) (view tree.now) }
 {
     let _tree = tree;
 }
@@ -41,4 +68,16 @@ pub fn component_is_resolved(text: &str, tree: &Value)
 {
     let _text = text;
     let _tree = tree;
+}
+
+/// A text that is shown is on one line, and it can be had back. So each pointer is that is shown, and each line that is displayed of a misfit, of a
+/// reference or of what is dropped.
+pub fn shown_is_one_line()
+    ensures one_line { (text : List ℕ) → IsOneLine (shown text) }
+    ensures back { (text : List ℕ) → IsUtf8 text → meant (shown text) ≡ text }
+    ensures pointer { (steps : List Step) → IsOneLine (shown_pointer steps) }
+    ensures misfit { (m : Misfit) → IsOneLine (misfit_text m) }
+    ensures reference { (r : Reference) → IsOneLine (reference_text r) }
+    ensures dropped { (d : Dropped) → IsOneLine (dropped_text d) }
+{
 }

@@ -20,6 +20,7 @@ ghost use Rattle.utoipa_tables.specs.Tables.{kind_of};
 
 use crate::layout::Target;
 use crate::misfit::Cause;
+use crate::shown::Shown;
 use crate::walk::walk;
 use serde_json::Value;
 use std::alloc::{AllocError, Global};
@@ -246,7 +247,10 @@ impl fmt::Display for LocatedFault {
             Some(FaultPlace::InText { line, column }) => {
                 write!(f, "line {line}, column {column}: {fault}")
             }
-            Some(FaultPlace::InTree { pointer, cause }) => write!(f, "{pointer}: {cause}"),
+            Some(FaultPlace::InTree { pointer, cause }) => {
+                let pointer = Shown(pointer.as_str());
+                write!(f, "{pointer}: {cause}")
+            }
             None => write!(f, "{fault}"),
         }
     }

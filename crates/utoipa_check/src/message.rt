@@ -7,6 +7,8 @@ ghost use Rattle.utoipa_check.specs.Views.{cause_of, misfit_of};
 ghost use Rattle.utoipa_tables.specs.Tables.{kind_of, kinds_of};
 
 use crate::misfit::{Cause, Misfit};
+use crate::pointer::ShownPointer;
+use crate::shown::Shown;
 use std::fmt;
 use utoipa_tables::{Kind, title};
 
@@ -44,8 +46,10 @@ fn write_words<W: fmt::Write>(f: &mut fmt::Formatter<W>, words: &[&str]) -> fmt:
     let [first, others @ ..] = words else {
         return Ok(());
     };
+    let first = Shown(*first);
     write!(f, "`{first}`")?;
     for word in others {
+        let word = Shown(*word);
         write!(f, ", `{word}`")?;
     }
     Ok(())
@@ -72,7 +76,10 @@ impl fmt::Display for Cause {
 
     fn fmt<W: fmt::Write>(&self, f: &mut fmt::Formatter<W>) -> fmt::Result {
         match self {
-            Cause::Absent(name) => write!(f, "the member `{name}` is required"),
+            Cause::Absent(name) => {
+                let name = Shown(*name);
+                write!(f, "the member `{name}` is required")
+            }
             Cause::Expected(kind) => {
                 let expected = expectation(*kind);
                 write!(f, "{expected} is expected")
@@ -95,7 +102,7 @@ impl fmt::Display for Misfit<'_> {
     ghost output = { λ m. Some (misfit_text (misfit_of m)) };
 
     fn fmt<W: fmt::Write>(&self, f: &mut fmt::Formatter<W>) -> fmt::Result {
-        let pointer = &self.pointer;
+        let pointer = ShownPointer(&self.pointer);
         let cause = self.cause;
         write!(f, "{pointer}: {cause}")
     }

@@ -1,9 +1,10 @@
 //! All places where a document refers.
-ghost use Rattle.std.specs.Prelude.{◌≡◌, ◌++◌, ◌∷◌, List, IfOk, OnOk, length, map};
+ghost use Rattle.std.specs.Prelude.{◌≡◌, ◌++◌, ◌∷◌, List, Some, IfOk, OnOk, length, map};
 ghost use Rattle.serde_json.specs.View.{view};
 ghost use Rattle.utoipa_check.specs.Mentioned as mentioned;
 ghost use Rattle.utoipa_check.specs.Places as places;
-ghost use Rattle.utoipa_check.specs.ReferenceViews.{mentions_of, references_of, stacked_mentioned};
+ghost use Rattle.utoipa_check.specs.ReferenceViews.{mentions_of, reference_of, references_of, stacked_mentioned};
+ghost use Rattle.utoipa_check.specs.Said.{reference_text};
 ghost use Rattle.utoipa_check.specs.Views.{stacked, place_of};
 ghost use Rattle.utoipa_check.specs.References as specs;
 ghost use Rattle.utoipa_tables.specs.Tables.{kind_of};
@@ -11,8 +12,10 @@ ghost use Rattle.utoipa_tables.specs.Tables.{kind_of};
 use crate::layout::Target;
 use crate::mention::{Mention, Mentioned};
 use crate::misfit::{Outcome, Pointer, Step};
+use crate::pointer::ShownPointer;
 use crate::referrer::mentions_from;
 use crate::referring::{State, Way, resolve};
+use crate::shown::Shown;
 use crate::task::{Task, push_place};
 use crate::walk::{begin_place, end_place};
 use serde_json::Value;
@@ -111,9 +114,11 @@ pub fn references<'a>(
 
 /// The JSON Pointer of the place, the text that stands there, and what has become of the reference.
 impl fmt::Display for Reference<'_> {
+    ghost output = { λ x. Some (reference_text (reference_of x)) };
+
     fn fmt<W: fmt::Write>(&self, f: &mut fmt::Formatter<W>) -> fmt::Result {
-        let pointer = &self.pointer;
-        let text = self.text;
+        let pointer = ShownPointer(&self.pointer);
+        let text = Shown(self.text);
         let state = self.state;
         write!(f, "{pointer}: `{text}` {state}")
     }

@@ -1,10 +1,11 @@
 //! Where a reference leads, by its text and by the tree of the document that it stands in.
-ghost use Rattle.std.specs.Prelude.{◌≡◌, IfOk, codes, option_map};
+ghost use Rattle.std.specs.Prelude.{◌≡◌, Some, IfOk, codes, option_map};
 ghost use Rattle.serde_json.specs.View.{view};
 ghost use Rattle.utoipa_check.specs.ReferenceViews.{state_of, way_of};
 ghost use Rattle.percent_encoding.specs.Percent.{percent_decode as decoded};
 ghost use Rattle.utoipa_base.specs.References.{component as entry, target_of_fragment, target_of_text};
 ghost use Rattle.utoipa_check.specs.Referring as specs;
+ghost use Rattle.utoipa_check.specs.Said.{state_text};
 
 use percent_encoding::{DecodeError, percent_decode};
 use serde_json::Value;
@@ -139,6 +140,8 @@ pub fn resolve(alloc: Global, way: Way, text: &str, tree: &Value) -> Result<Stat
 }
 
 impl fmt::Display for State {
+    ghost output = { λ x. Some (state_text (state_of x)) };
+
     fn fmt<W: fmt::Write>(&self, f: &mut fmt::Formatter<W>) -> fmt::Result {
         match self {
             State::Dangling => write!(f, "leads to nothing"),

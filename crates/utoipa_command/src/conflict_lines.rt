@@ -1,7 +1,8 @@
 //! What merging the documents of a text drops, in lines.
 ghost use Rattle.std.specs.Prelude.{◌≡◌, ◌++◌, IfOk, IfErr, OnOk, string_bytes};
 ghost use Rattle.utoipa_command.specs.Answers.{IsCauseOfText};
-ghost use Rattle.utoipa_command.specs.Dropped.{AreConflicts, documents_kind, told_line, told_lines};
+ghost use Rattle.utoipa_command.specs.Dropped.{AreConflicts, documents_kind};
+ghost use Rattle.utoipa_conflicts.specs.Texts.{told_line, told_lines};
 ghost use Rattle.utoipa_conflicts.specs.Views.{all_told, told_of};
 
 use crate::answer::document_of;

@@ -7,7 +7,7 @@ pub mod Examples
 pub mod Holders
 pub mod Views
 pub mod Deciders
-pub mod Texts
 pub mod Merged
+pub mod Texts
 pub mod Nested
 pub mod NestedInto

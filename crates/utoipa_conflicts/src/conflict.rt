@@ -21,7 +21,7 @@ use serde_json::Value;
 use std::alloc::{AllocError, Global};
 use std::collections::BTreeMap;
 use std::fmt;
-use utoipa_check::{Pointer, Step};
+use utoipa_check::{Pointer, ShownPointer, Step};
 
 /// A value that is dropped where documents are merged.
 #[derive(Drop)]
@@ -198,12 +198,12 @@ pub fn tree_conflicts<'a>(
     Ok(found)
 }
 
-/// The JSON Pointer of the place, whose value is dropped there, and which document decides.
+/// The JSON Pointer of the place, as it is shown on a line, whose value is dropped there, and which document decides.
 impl fmt::Display for Conflict<'_> {
     ghost output = { λ c. Some (conflict_text (conflict_of c)) };
 
     fn fmt<W: fmt::Write>(&self, f: &mut fmt::Formatter<W>) -> fmt::Result {
-        let pointer = &self.pointer;
+        let pointer = ShownPointer(&self.pointer);
         let dropped = self.dropped;
         let kept = self.kept;
         write!(

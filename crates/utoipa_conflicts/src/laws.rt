@@ -1,20 +1,22 @@
 //! The laws of conflicts, of all trees.
-ghost use Rattle.std.specs.Prelude.{◌≡◌, ◌↔◌, ◌∷◌, [], ℕ, List, All, true, false, IsTrue};
+ghost use Rattle.std.specs.Prelude.{◌≡◌, ◌↔◌, ◌∷◌, [], ℕ, List, All, true, false, length, IsTrue};
 ghost use Rattle.serde_json.specs.Data.{Data};
 ghost use Rattle.serde_json.specs.Written.{has_float};
 ghost use Rattle.std.specs.Option.{option_or};
 ghost use Rattle.utoipa_base.specs.Docs.{Doc};
 ghost use Rattle.utoipa_base.specs.Extensions.{is_extension};
 ghost use Rattle.utoipa_base.specs.Writing.{write};
-ghost use Rattle.utoipa_conflicts.specs.Conflicts.{Slot, place, place_of_item, conflicts};
+ghost use Rattle.utoipa_check.specs.Shown.{IsOneLine, AreLines};
+ghost use Rattle.utoipa_conflicts.specs.Conflicts.{Conflict, Slot, place, place_of_item, conflicts};
 ghost use Rattle.utoipa_conflicts.specs.Examples.{two_services, two_services_drop, three_paths, three_paths_drop, three_components, three_components_drop};
 ghost use Rattle.utoipa_conflicts.specs.Holders.{IsNamedOnce};
 ghost use Rattle.utoipa_conflicts.specs.IsConflict.{IsOneOf, IsConflict, AllKept};
 ghost use Rattle.utoipa_conflicts.specs.Kept.{IsAllKept, kept, behind_holder};
-ghost use Rattle.utoipa_conflicts.specs.Merged.{AreMergedInto, IsAllThere, IsLost, is_slot, written};
+ghost use Rattle.utoipa_conflicts.specs.Merged.{AreMergedInto, IsAllThere, IsLost, Told, is_slot, written};
 ghost use Rattle.utoipa_conflicts.specs.Nested.{answered, nested_conflicts, path_items, put_at};
 ghost use Rattle.utoipa_conflicts.specs.NestedInto.{AreNestedInto, IsLostByNesting};
 ghost use Rattle.utoipa_conflicts.specs.Same.{is_same};
+ghost use Rattle.utoipa_conflicts.specs.Texts.{conflict_text, told_text, told_lines};
 ghost use Rattle.utoipa_conflicts.specs.Trees.{Place, at_place};
 
 /// A value is listed exactly where it is dropped, and the list is empty exactly where each value is kept.
@@ -91,4 +93,11 @@ pub fn nested_conflicts_are_what_is_lost()
         → IsNamedOnce (write own) → IsNamedOnce (write other)
         → (p : Place) (j : ℕ) → ((i : ℕ) × IsOneOf (p, i, j) (nested_conflicts answers (write own) (write other)))
         ↔ IsLostByNesting answers own other d p j }
+{}
+
+/// What a conflict is displayed as is on one line, and the lines of some are as many as those.
+pub fn conflicts_are_lines()
+    ensures conflict { (c : Conflict) → IsOneLine (conflict_text c) }
+    ensures told { (c : Told) → IsOneLine (told_text c) }
+    ensures lines { (cs : List Told) → AreLines (length cs) (told_lines cs) }
 {}

@@ -17,6 +17,7 @@ use serde_json::Value;
 use std::alloc::{AllocError, Global};
 use std::fmt;
 use utoipa_base::Tree;
+use utoipa_check::Shown;
 
 /// A value of a document that is dropped where documents are merged.
 #[derive(Debug, Drop)]
@@ -168,12 +169,12 @@ pub fn nested_conflicts<T: Tree>(
     composed_conflicts(alloc, own, nested, &answers)
 }
 
-/// The JSON Pointer of the place, whose value is dropped there, and which document decides.
+/// The JSON Pointer of the place, as it is shown on a line, whose value is dropped there, and which document decides.
 impl fmt::Display for DocumentConflict {
-    ghost output = { λ c. Some (told_text (told_of c).0 c.kept c.dropped) };
+    ghost output = { λ c. Some (told_text (told_of c)) };
 
     fn fmt<W: fmt::Write>(&self, f: &mut fmt::Formatter<W>) -> fmt::Result {
-        let pointer = &self.pointer;
+        let pointer = Shown(self.pointer.as_str());
         let dropped = self.dropped;
         let kept = self.kept;
         write!(

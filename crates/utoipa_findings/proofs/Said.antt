@@ -4,7 +4,7 @@ use Rattle.std.specs.List.{flat_map}
 use Rattle.std.specs.Str.{IsUtf8, is_utf8}
 use Rattle.std.proofs.lemmas.Str.{IsUtf8-from_is_utf8}
 use Rattle.utoipa_check.specs.Misfits as specs
-use Rattle.utoipa_check.specs.Pointers.{pointer_text}
+use Rattle.utoipa_check.specs.Pointers.{shown_pointer}
 use Rattle.utoipa_check.specs.Views.{step_of, outwards}
 use Rattle.utoipa_check.specs.declared.misfit.Step.{Step}
 use Rattle.utoipa_findings.specs.Lines.{place_text}
@@ -13,13 +13,13 @@ use Rattle.utoipa_findings.specs.Sources.{is_like_yaml, yaml_said, no_json, no_t
 -- ---- places
 
 place_behind : (xs : List Step) (s : specs.Step) (ss : List specs.Step) (said : List ℕ)
-    → pointer_text (outwards xs (s ∷ ss)) ++ (codes ": " ++ said) ≡ place_text (outwards xs (s ∷ ss)) ++ said
-place_behind [] s ss said = sym (append_assoc (pointer_text (s ∷ ss)) (codes ": ") said)
+    → shown_pointer (outwards xs (s ∷ ss)) ++ (codes ": " ++ said) ≡ place_text (outwards xs (s ∷ ss)) ++ said
+place_behind [] s ss said = sym (append_assoc (shown_pointer (s ∷ ss)) (codes ": ") said)
 place_behind (x ∷ xs) s ss said = place_behind xs (step_of x) (s ∷ ss) said
 
 -- a place that is not the root
 pub some_place : (xs : List Step) (n : ℕ) (b : Bool) (said : List ℕ) → b ≡ n == 0 → n ≡ length xs → b ≡ false
-    → pointer_text (outwards xs []) ++ (codes ": " ++ said) ≡ place_text (outwards xs []) ++ said
+    → shown_pointer (outwards xs []) ++ (codes ": " ++ said) ≡ place_text (outwards xs []) ++ said
 some_place [] n b said test is some = absurd (true≢false (sym (test ∙ ap (λ m. m == 0) is) ∙ some))
 some_place (x ∷ xs) n b said test is some = place_behind xs (step_of x) [] said
 

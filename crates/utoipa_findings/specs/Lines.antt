@@ -3,8 +3,9 @@ use Rattle.std.specs.Prelude.{ℕ, List, [], ◌∷◌, ◌++◌, codes, slice_i
 use Rattle.std.specs.List.{flat_map}
 use Rattle.utoipa_check.specs.Dropped.{Loss, absent, left_out, changed}
 use Rattle.utoipa_check.specs.Misfits.{Step}
-use Rattle.utoipa_check.specs.Pointers.{pointer_text}
+use Rattle.utoipa_check.specs.Pointers.{shown_pointer}
 use Rattle.utoipa_check.specs.Said.{cause_text}
+use Rattle.utoipa_check.specs.Shown.{shown}
 use Rattle.utoipa_conflicts.specs.Conflicts.{Conflict}
 use Rattle.utoipa_findings.specs.Findings.{What, unfit, doubtful, lost, dangles, Finding}
 
@@ -17,19 +18,19 @@ abbrev pub what_text : What → List ℕ
 what_text (unfit c) = cause_text c
 what_text (doubtful c) = codes "this is read otherwise than it was meant: " ++ cause_text c
 what_text (lost l) = loss_text l
-what_text (dangles text) = codes "the reference `" ++ text ++ codes "` leads to nothing"
+what_text (dangles text) = codes "the reference `" ++ shown text ++ codes "` leads to nothing"
 
 -- the JSON Pointer of a place, before what is found there; the root needs none
 abbrev pub place_text : List Step → List ℕ
 place_text [] = []
-place_text (s ∷ ss) = pointer_text (s ∷ ss) ++ codes ": "
+place_text (s ∷ ss) = shown_pointer (s ∷ ss) ++ codes ": "
 
 abbrev pub finding_text : Finding → List ℕ
 finding_text f = place_text f.0 ++ what_text f.1
 
--- a line that tells something of a file
+-- a line that tells something of a file, by its name as it is shown
 abbrev pub line : (name said : List ℕ) → List ℕ
-line name said = name ++ codes ": " ++ said ++ codes "\n"
+line name said = shown name ++ codes ": " ++ said ++ codes "\n"
 
 abbrev pub finding_line : (name : List ℕ) → Finding → List ℕ
 finding_line name f = line name (finding_text f)
@@ -46,7 +47,7 @@ name_at names n = slice_index_or names n []
 
 -- a value that merging drops: the file that has it, its place, and the file that decides there
 abbrev pub drop_line : (dropped : List ℕ) → List Step → (kept : List ℕ) → List ℕ
-drop_line dropped p kept = dropped ++ (codes ": " ++ (pointer_text p ++ (codes ": merging drops this, since " ++ (kept ++ codes " decides here\n"))))
+drop_line dropped p kept = shown dropped ++ (codes ": " ++ (shown_pointer p ++ (codes ": merging drops this, since " ++ (shown kept ++ codes " decides here\n"))))
 
 abbrev pub conflict_line : (names : List (List ℕ)) → Conflict → List ℕ
 conflict_line names c = drop_line (name_at names c.2) c.0 (name_at names c.1)

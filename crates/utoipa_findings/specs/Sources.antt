@@ -6,6 +6,7 @@ use Rattle.serde_json.specs.Read.{read as read_text}
 use Rattle.utoipa_base.specs.Docs.{Doc}
 use Rattle.utoipa_base.specs.Kinds.{Kind}
 use Rattle.utoipa_base.specs.WellFormed.{ReadsAs}
+use Rattle.utoipa_check.specs.Shown.{shown}
 
 -- the tree of the bytes, if they are UTF-8 and JSON
 abbrev pub tree_of : List ℕ → Option Data
@@ -44,11 +45,11 @@ is_like_yaml bytes = is_no_bracket (first_byte bytes)
 
 -- what tells of a file at one of its lines and columns
 abbrev pub text_line : (name : List ℕ) → (line column : ℕ) → (said : List ℕ) → List ℕ
-text_line name line column said = name ++ (codes ":" ++ (decimal line ++ (codes ":" ++ (decimal column ++ (codes ": " ++ said)))))
+text_line name line column said = shown name ++ (codes ":" ++ (decimal line ++ (codes ":" ++ (decimal column ++ (codes ": " ++ said)))))
 
 -- that a text looks like YAML, and the command that reads it
 abbrev pub yaml_said : (name : List ℕ) → List ℕ
-yaml_said name = codes "this is no JSON, and looks like YAML, which is not read: yq -o json " ++ (name ++ codes " | openapi check -\n")
+yaml_said name = codes "this is no JSON, and looks like YAML, which is not read: yq -o json " ++ (shown name ++ codes " | openapi check -\n")
 
 -- what is said of a text that is no JSON, to the end of the line
 abbrev pub no_json : (name bytes : List ℕ) → List ℕ

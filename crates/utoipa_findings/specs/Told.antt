@@ -1,5 +1,5 @@
 -- What is told of a file.
-use Rattle.std.specs.Prelude.{◌≡◌, ℕ, List, Option, None, Some, string_bytes}
+use Rattle.std.specs.Prelude.{◌≡◌, ℕ, List, Option, None, Some, length, string_bytes}
 use Rattle.serde_json.specs.Data.{Data}
 use Rattle.utoipa_base.specs.Docs.{Doc}
 use Rattle.utoipa_base.specs.Kinds.{Kind}
@@ -23,6 +23,11 @@ IsTreeless name bytes told = (tree_of bytes ≡ None) × IsTreelessLine name byt
 abbrev pub IsTold : (f : Data → List Finding) → (name bytes : List ℕ) → Option Data → (told : List ℕ) → Type 0
 IsTold f name bytes None told = IsTreelessLine name bytes told
 IsTold f name bytes (Some t) told = told ≡ lines_of name (f t)
+
+-- how many lines that are: one that there is no tree, or one for each that f lists
+abbrev pub lines_due : (f : Data → List Finding) → Option Data → ℕ
+lines_due f None = 1
+lines_due f (Some t) = length (f t)
 
 -- what is found in a file
 abbrev pub IsChecked : Kind → (name bytes told : List ℕ) → Type 0

@@ -11,7 +11,7 @@ ghost use Rattle.utoipa_findings.specs.Views.{names_of};
 use crate::source::Source;
 use serde_json::Value;
 use std::alloc::{AllocError, Global};
-use utoipa_check::Pointer;
+use utoipa_check::{Pointer, Shown, ShownPointer};
 use utoipa_conflicts::{Conflict, tree_conflicts};
 
 /// The name of a file by its number, counted from 0.
@@ -35,6 +35,9 @@ fn put_drop(
     ensures { OnOk result (string_bytes lines.new
         ≡ string_bytes lines.old ++ specs.drop_line dropped.now (outwards pointer.now.steps.items []) kept.now) }
 {
+    let dropped = Shown(dropped);
+    let pointer = ShownPointer(pointer);
+    let kept = Shown(kept);
     write!(
         lines,
         "{dropped}: {pointer}: merging drops this, since {kept} decides here\n"

@@ -5,7 +5,7 @@ ghost use Rattle.utoipa_findings.specs.Lines.{loss_text, what_text, finding_text
 ghost use Rattle.utoipa_findings.specs.Views.{what_of, finding_of};
 
 use std::fmt;
-use utoipa_check::{Cause, Loss, Pointer};
+use utoipa_check::{Cause, Loss, Pointer, Shown, ShownPointer};
 
 /// What is found at a place.
 #[derive(Clone, Copy, Drop)]
@@ -58,7 +58,10 @@ impl fmt::Display for What<'_> {
                 let loss = LossText(*loss);
                 write!(f, "{loss}")
             }
-            What::Dangles(text) => write!(f, "the reference `{text}` leads to nothing"),
+            What::Dangles(text) => {
+                let text = Shown(*text);
+                write!(f, "the reference `{text}` leads to nothing")
+            }
         }
     }
 }
@@ -68,9 +71,9 @@ impl fmt::Display for Finding<'_> {
     ghost output = { λ x. Some (finding_text (finding_of x)) };
 
     fn fmt<W: fmt::Write>(&self, f: &mut fmt::Formatter<W>) -> fmt::Result {
-        let pointer = &self.pointer;
+        let pointer = ShownPointer(&self.pointer);
         let what = self.what;
-        if pointer.steps.is_empty() {
+        if self.pointer.steps.is_empty() {
             write!(f, "{what}")
         } else {
             write!(f, "{pointer}: {what}")

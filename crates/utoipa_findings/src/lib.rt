@@ -9,6 +9,7 @@
 
 mod conflict;
 pub mod finding;
+pub mod laws;
 mod lines;
 mod reading;
 mod refusal;

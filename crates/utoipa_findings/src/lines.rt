@@ -5,12 +5,14 @@ ghost use Rattle.utoipa_findings.specs.Views.{all_findings, finding_of};
 
 use crate::finding::Finding;
 use std::alloc::{AllocError, Global};
+use utoipa_check::Shown;
 
 /// Adds the line of a finding. Fails where memory runs out.
 fn put_line(name: &str, finding: &Finding<'_>, lines: &mut String) -> Result<(), AllocError>
     ensures { OnOk result (string_bytes lines.new
         ≡ string_bytes lines.old ++ finding_line name.now (finding_of finding.now)) }
 {
+    let name = Shown(name);
     write!(lines, "{name}: {finding}\n")
 }
 

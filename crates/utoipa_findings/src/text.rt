@@ -11,6 +11,7 @@ use crate::source::Source;
 use serde_json::Value;
 use simdutf8::compat::from_utf8;
 use std::alloc::{AllocError, Global};
+use utoipa_check::Shown;
 
 /// Whether a byte is white space of JSON.
 fn is_blank(byte: u8) -> bool
@@ -67,6 +68,7 @@ fn no_json_line(
     ensures { IfOk result
         (λ told. string_bytes told ≡ specs.text_line name.now line column (specs.no_json name.now text.now)) }
 {
+    let name = Shown(name);
     if is_like_yaml(text.as_bytes()) {
         return format!(in alloc;
             "{name}:{line}:{column}: this is no JSON, and looks like YAML, which is not read: yq -o json {name} | openapi check -\n"
@@ -82,7 +84,7 @@ fn no_utf8_line(alloc: Global, source: Source<'_>, at: usize) -> Result<String, 
         (λ told. specs.IsTreelessLine source.entry.name.now source.entry.bytes.now (string_bytes told)) }
 {
     let (line, column) = position(source.bytes, at);
-    let name = source.name;
+    let name = Shown(source.name);
     format!(in alloc; "{name}:{line}:{column}: this is no UTF-8\n")
 }
 

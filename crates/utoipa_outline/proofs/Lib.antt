@@ -1,4 +1,4 @@
-pub mod Letters
+pub mod OnLines
 pub mod Naming
 pub mod Names
 pub mod Counts

@@ -1,4 +1,3 @@
-pub mod OneLine
 pub mod Operations
 pub mod Lines
 pub mod Used

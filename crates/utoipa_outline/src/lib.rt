@@ -5,8 +5,8 @@
 
 pub mod counted;
 pub mod depth;
+pub mod laws;
 mod lines;
-mod one_line;
 pub mod operation;
 mod stats;
 mod used;

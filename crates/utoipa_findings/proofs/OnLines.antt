@@ -1,0 +1,87 @@
+-- What is told is lines.
+use Rattle.std.proofs.Common.{◌≡◌, ℕ, List, [], ◌∷◌, ◌++◌, if◌then◌else◌, Option, Some, None, codes, decimal, length, refl, sym, subst}
+use Rattle.std.specs.List.{flat_map}
+use Rattle.std.specs.Str.{is_utf8}
+use Rattle.std.proofs.lemmas.Bool.{cond_both}
+use Rattle.serde_json.specs.Data.{Data}
+use Rattle.utoipa_check.specs.Dropped.{Loss, absent, left_out, changed}
+use Rattle.utoipa_check.specs.Misfits.{Step}
+use Rattle.utoipa_check.specs.Pointers.{shown_pointer}
+use Rattle.utoipa_check.specs.Said.{cause_text}
+use Rattle.utoipa_check.specs.Shown.{shown, IsOneLine, AreLines}
+use Rattle.utoipa_check.proofs.SaidOnLines.{among, behind, before_words, cause_line}
+use Rattle.utoipa_check.proofs.ShownPointers.{pointer_line}
+use Rattle.utoipa_check.proofs.ShownTexts.{printed, nothing_is_one_line, one_line_append, shown_line}
+use Rattle.utoipa_check.proofs.WholeLines.{IsEnded, decimal_line, end_of, printed_end, before_end, lines_of_each, one_line_told}
+use Rattle.utoipa_conflicts.specs.Conflicts.{Conflict}
+use Rattle.utoipa_findings.specs.Findings.{What, unfit, doubtful, lost, dangles, Finding}
+use Rattle.utoipa_findings.specs.Lines.{loss_text, what_text, place_text, finding_text, finding_line, lines_of, name_at, drop_line, conflict_line}
+use Rattle.utoipa_findings.specs.Sources.{is_like_yaml, text_line, yaml_said, no_json, no_tree, IsTreelessLine}
+use Rattle.utoipa_findings.specs.Told.{IsTold, lines_due}
+
+-- ---- findings
+
+loss_line : (l : Loss) → IsOneLine (loss_text l)
+loss_line absent = printed (loss_text absent) refl
+loss_line left_out = printed (loss_text left_out) refl
+loss_line changed = printed (loss_text changed) refl
+
+what_line : (w : What) → IsOneLine (what_text w)
+what_line (unfit c) = cause_line c
+what_line (doubtful c) = behind (codes "this is read otherwise than it was meant: ") (cause_text c) refl (cause_line c)
+what_line (lost l) = loss_line l
+what_line (dangles text) = among (codes "the reference `") (shown text) (codes "` leads to nothing") refl (shown_line text) refl
+
+place_line : (ss : List Step) → IsOneLine (place_text ss)
+place_line [] = nothing_is_one_line
+place_line (s ∷ ss) = one_line_append (shown_pointer (s ∷ ss)) (codes ": ") (pointer_line (s ∷ ss)) (printed (codes ": ") refl)
+
+finding_ended : (name : List ℕ) (f : Finding) → IsEnded (finding_line name f)
+finding_ended name f =
+    let said = one_line_append (place_text f.0) (what_text f.1) (place_line f.0) (what_line f.1) in
+    end_of (shown name ++ codes ": " ++ finding_text f) (one_line_append (shown name ++ codes ": ") (finding_text f) (before_words (shown name) (codes ": ") (shown_line name) refl) said)
+
+pub findings_are_lines : (name : List ℕ) (fs : List Finding) → AreLines (length fs) (lines_of name fs)
+findings_are_lines name fs = lines_of_each (finding_line name) (finding_ended name) fs
+
+-- ---- files without a tree
+
+text_ended : (name : List ℕ) (line column : ℕ) (said : List ℕ) → IsEnded said → IsEnded (text_line name line column said)
+text_ended name line column said h =
+    before_end (shown name) _ (shown_line name)
+    (before_end (codes ":") _ (printed (codes ":") refl)
+    (before_end (decimal line) _ (decimal_line line) (before_end (codes ":") _ (printed (codes ":") refl) (before_end (decimal column) _ (decimal_line column) (before_end (codes ": ") said (printed (codes ": ") refl) h)))))
+
+yaml_ended : (name : List ℕ) → IsEnded (yaml_said name)
+yaml_ended name =
+    before_end (codes "this is no JSON, and looks like YAML, which is not read: yq -o json ") _ (printed (codes "this is no JSON, and looks like YAML, which is not read: yq -o json ") refl)
+    (before_end (shown name) (codes " | openapi check -\n") (shown_line name) (printed_end (codes " | openapi check -") refl))
+
+no_json_ended : (name bytes : List ℕ) → IsEnded (no_json name bytes)
+no_json_ended name bytes = cond_both (is_like_yaml bytes) _ _ IsEnded (λ _. yaml_ended name) (λ _. printed_end (codes "this is no JSON") refl)
+
+no_tree_ended : (name bytes : List ℕ) → IsEnded (no_tree name bytes)
+no_tree_ended name bytes = cond_both (is_utf8 bytes) _ _ IsEnded (λ _. no_json_ended name bytes) (λ _. printed_end (codes "this is no UTF-8") refl)
+
+pub treeless_is_a_line : (name bytes told : List ℕ) → IsTreelessLine name bytes told → AreLines 1 told
+treeless_is_a_line name bytes told h =
+    subst (AreLines 1) (sym h.2) (one_line_told (text_line name h.0 h.1 (no_tree name bytes)) (text_ended name h.0 h.1 (no_tree name bytes) (no_tree_ended name bytes)))
+
+-- ---- what is told of a file
+
+pub told_are_lines : (f : Data → List Finding) (name bytes : List ℕ) (tree : Option Data) (told : List ℕ) → IsTold f name bytes tree told → AreLines (lines_due f tree) told
+told_are_lines f name bytes None told h = treeless_is_a_line name bytes told h
+told_are_lines f name bytes (Some t) told h = subst (AreLines (length (f t))) (sym h) (findings_are_lines name (f t))
+
+-- ---- what merging drops
+
+drop_ended : (dropped : List ℕ) (p : List Step) (kept : List ℕ) → IsEnded (drop_line dropped p kept)
+drop_ended dropped p kept =
+    before_end (shown dropped) _ (shown_line dropped)
+    (before_end (codes ": ") _ (printed (codes ": ") refl)
+    (before_end (shown_pointer p) _ (pointer_line p)
+    (before_end (codes ": merging drops this, since ") _ (printed (codes ": merging drops this, since ") refl)
+    (before_end (shown kept) (codes " decides here\n") (shown_line kept) (printed_end (codes " decides here") refl)))))
+
+pub conflicts_are_lines : (names : List (List ℕ)) (cs : List Conflict) → AreLines (length cs) (flat_map (conflict_line names) cs)
+conflicts_are_lines names cs = lines_of_each (conflict_line names) (λ c. drop_ended (name_at names c.2) c.0 (name_at names c.1)) cs
