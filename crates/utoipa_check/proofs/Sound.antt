@@ -17,7 +17,7 @@ use Rattle.utoipa_base.specs.Tables.{table}
 use Rattle.utoipa_base.specs.Extensions.{is_extension}
 use Rattle.utoipa_base.specs.Reading.{is_null, is_named, reader, read}
 use Rattle.utoipa_check.specs.IsDropped.{IsMember, StandsIn}
-use Rattle.utoipa_check.specs.Misfits.{Step, at_name, at_index, Cause, absent, expected, unknown_word, no_alternative, fraction, Misfit, Misfits, here, under, is_fit, mismatch, expect, expect_of, unless_fit, Check, Checks, check_at, entry_checks, row_misfits, rows_misfits, table_misfits, items_misfits, entries_misfits, says_array, meant_schema, fits_schema, schema_misfits, ref_or_misfits, alternative_misfits, chosen_misfits, tagged_misfits, api_key_misfits, scheme_misfits, security_scheme_misfits, flow_misfits, flows_misfits, null_misfits, boolean_misfits, number_misfits, string_misfits, array_misfits, object_misfits, checker, item_checkers, checks, misfits, fractions, items_fractions, members_fractions, is_fraction, without_fractions, misfits_and_fractions}
+use Rattle.utoipa_check.specs.Misfits.{Step, at_name, at_index, Cause, absent, expected, unknown_word, no_alternative, unknown_name, fraction, Misfit, Misfits, here, under, is_fit, mismatch, expect, expect_of, unless_fit, Check, Checks, check_at, entry_checks, row_misfits, rows_misfits, table_misfits, items_misfits, entries_misfits, says_array, meant_schema, fits_schema, schema_misfits, ref_or_misfits, alternative_misfits, chosen_misfits, tagged_misfits, api_key_misfits, scheme_misfits, security_scheme_misfits, flow_misfits, flows_misfits, null_misfits, boolean_misfits, number_misfits, string_misfits, array_misfits, object_misfits, checker, item_checkers, checks, misfits, fractions, items_fractions, members_fractions, is_fraction, without_fractions, misfits_and_fractions}
 use Rattle.utoipa_tables.specs.Tables.{words_of_choices, flow_kinds}
 use Rattle.utoipa_check.specs.Truth.{Due, of_kind, of_any_flow, of_words, IsTakenAsReference, IsNoReference, Chooses, IsTakenAs, IsRow, HasToFit, flow_due, Stands, IsDueBehind, kind_at, Requires, IsNoneOf, is_container, sort, IsOfAnotherSort, words_at, Reaches, IsFraction, IsTrueAt, AllTrueAt, AllTrue}
 use Rattle.utoipa_check.proofs.Exact.{misfits_exact, fractions_exact, join_fit, and_same, unless_fit-fit}
@@ -360,7 +360,7 @@ chosen_key : (s : List ℕ) (cs : List (List ℕ × Kind)) → all_keys cs → (
 chosen_key s [] h k e = absurd (true≢false (sym (ap is_some e)))
 chosen_key s (c ∷ cs) h k e = key_by (bytes_eq s c.0) c.1 k (chosen s cs) h.0 (chosen_key s cs h.1 k) e
 
-chooses_as : (name : List ℕ) (choices : List (List ℕ × Kind)) (t : Data) (k j : Kind) → Chooses name choices t k → j ≡ k → Chooses name choices t j
+pub chooses_as : (name : List ℕ) (choices : List (List ℕ × Kind)) (t : Data) (k j : Kind) → Chooses name choices t k → j ≡ k → Chooses name choices t j
 chooses_as name choices t k j h is = subst (λ l. Chooses name choices t l) (sym is) h
 
 by_test : (b : Bool) (k : Kind) (o : Option Kind) (r : Bool) → (o ≡ None → r ≡ false) → cond b (Some k) o ≡ None → b || r ≡ false
@@ -572,6 +572,7 @@ no_fraction (absent name) p e d plain h = refl
 no_fraction (expected k) p e d plain h = refl
 no_fraction (unknown_word ws) p e d plain h = refl
 no_fraction (no_alternative ks) p e d plain h = refl
+no_fraction (unknown_name ns) p e d plain h = refl
 no_fraction fraction p e d plain h = absurd (true≢false (sym (reached p d h.0 h.1 h.2) ∙ plain))
 
 all_kept : (e : Due) (d : Data) → has_float d ≡ false → (xs : Misfits) → AllTrueAt e d xs → without_fractions xs ≡ xs
