@@ -23,6 +23,8 @@ pub mod Doubters
 pub mod Copies
 pub mod DoubtsWalked
 pub mod DoubtsSound
+pub mod Unreferred
+pub mod Undoubted
 pub mod Leading
 pub mod Mentions
 pub mod MentionsJoined
