@@ -5,6 +5,7 @@ use Rattle.std.specs.Cmp.Lexicographic.{slice_cmp}
 use Rattle.std.proofs.lemmas.Map.Lookups.{exact_bytes}
 use Rattle.serde_json.specs.Data.{Data, null, boolean, number, string, array, object, Items, no_items, item, Members, no_members, member}
 use Rattle.serde_json.specs.Find.{as_str, get_member, get_item}
+use Rattle.serde_json.specs.Written.{has_float}
 use Rattle.utoipa_base.specs.Choices.{chosen, scheme_types, api_key_places, flow_keys, is_schema_type}
 use Rattle.utoipa_base.specs.Kinds.{ObjectType, reference_object, one_of_schema, all_of_schema, any_of_schema, array_schema, object_schema, Kind, list_of, map_of, ordered_map_of, entries_of, ref_or, named, schema, array_items, additional_properties, security_scheme, api_key, flows, Mark, required, optional, or_null, defaulted, Row}
 use Rattle.utoipa_base.specs.Extensions.{is_extension}
@@ -12,13 +13,13 @@ use Rattle.utoipa_base.specs.Reading.{is_null, is_named}
 use Rattle.utoipa_base.specs.Tables.{table}
 use Rattle.utoipa_check.specs.Taken.{taken_schema}
 use Rattle.utoipa_check.specs.Doubts.{row_doubts, rows_doubts, meant_doubts, schema_doubts, reference_doubts, array_doubts, alternative_doubts, api_key_doubts, scheme_doubts, flow_doubts, flows_doubts, own_doubts, object_doubts, doubter, item_doubters, doubters, doubts}
-use Rattle.utoipa_check.specs.Misfits.{at_name, at_index, unknown_name, Misfits, here, flow_misfits, under, is_fit, Check, Checks, check_at, entry_checks, items_misfits, entries_misfits, table_misfits, object_misfits, fits_table, fits_schema, may_be_object, meant_schema, checker, checks}
+use Rattle.utoipa_check.specs.Misfits.{at_name, at_index, unknown_name, Misfits, flow_misfits, under, is_fit, Check, Checks, check_at, entry_checks, items_misfits, entries_misfits, table_misfits, object_misfits, fits_table, fits_schema, may_be_object, meant_schema, checker, checks, without_fractions}
 use Rattle.utoipa_check.specs.IsDropped.{IsMember}
 use Rattle.utoipa_check.specs.Truth.{Due, of_kind, of_any_flow, flow_due, Chooses, IsTakenAsTable, IsTakenAsReference, IsNoReference, IsTakenAs, IsRow, HasToFit, AllTrueAt, AllTrue}
 use Rattle.utoipa_check.specs.Places.{chosen_at}
 use Rattle.utoipa_check.specs.Views.{object_kind}
 use Rattle.utoipa_check.proofs.Exact.{misfits_exact}
-use Rattle.utoipa_check.proofs.Sound.{refused, chooses_as, meant_is, as_meant, AllDue, all_due, entries_due, table_sound}
+use Rattle.utoipa_check.proofs.Sound.{all_kept, refused, chooses_as, meant_is, as_meant, AllDue, all_due, entries_due, table_sound}
 use Rattle.utoipa_check.proofs.Trues.{as_wider, as_own, as_table, join_true, either_true, under_true, here_true}
 
 -- ---- arrays
@@ -270,3 +271,7 @@ mutual
 -- each doubt is true
 pub doubts_sound : (k : Kind) (t : Data) → AllTrue k t (doubts k t)
 doubts_sound k t = tree_sound t k
+
+-- of a plain tree none is a fraction
+pub doubts_kept : (k : Kind) (t : Data) → has_float t ≡ false → without_fractions (doubts k t) ≡ doubts k t
+doubts_kept k t plain = all_kept (of_kind k) t plain (doubts k t) (doubts_sound k t)

@@ -25,6 +25,7 @@ pub mod DoubtsWalked
 pub mod DoubtsSound
 pub mod Unreferred
 pub mod Undoubted
+pub mod Within
 pub mod Leading
 pub mod Mentions
 pub mod MentionsJoined

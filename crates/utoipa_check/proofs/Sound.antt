@@ -202,7 +202,7 @@ got_by_order P Less u w d e q f g h = f q
 got_by_order P Equal u w d e q f g h = g refl (ap (λ o. value_or o d) q)
 got_by_order P Greater u w d e q f g h = h q
 
-got_member : (name : List ℕ) (ms : Members) (e : Data) → get_member name ms ≡ Some e → IsMember name e ms
+pub got_member : (name : List ℕ) (ms : Members) (e : Data) → get_member name ms ≡ Some e → IsMember name e ms
 got_member name no_members e h = absurd (true≢false (sym (ap is_some h)))
 got_member name (member k d ms) e h =
     got_by_order (IsMember name e (member k d ms)) (slice_cmp nat_cmp name k) (get_member name ms) (get_member name ms) d e h (λ q. inr (got_member name ms e q)) (λ same q. inl (exact_bytes name k same, sym q)) (λ q. inr (got_member name ms e q))
@@ -575,7 +575,7 @@ no_fraction (no_alternative ks) p e d plain h = refl
 no_fraction (unknown_name ns) p e d plain h = refl
 no_fraction fraction p e d plain h = absurd (true≢false (sym (reached p d h.0 h.1 h.2) ∙ plain))
 
-all_kept : (e : Due) (d : Data) → has_float d ≡ false → (xs : Misfits) → AllTrueAt e d xs → without_fractions xs ≡ xs
+pub all_kept : (e : Due) (d : Data) → has_float d ≡ false → (xs : Misfits) → AllTrueAt e d xs → without_fractions xs ≡ xs
 all_kept e d plain [] h = refl
 all_kept e d plain (x ∷ xs) h = ap (λ b. cond b (without_fractions xs) (x ∷ without_fractions xs)) (no_fraction x.1 x.0 e d plain h.0) ∙ ap (λ ys. x ∷ ys) (all_kept e d plain xs h.1)
 

@@ -4,28 +4,27 @@ use Rattle.std.proofs.lemmas.Option.{IfSome_then}
 use Rattle.std.specs.Cmp.Lexicographic.{slice_cmp}
 use Rattle.std.specs.List.{list_any}
 use Rattle.std.specs.Ordering.{match_ordering}
-use Rattle.serde_json.specs.Data.{Num, unsigned, negative, float, Data, null, boolean, number, string, array, object, Items, no_items, item, Members, no_members, member}
+use Rattle.serde_json.specs.Data.{Num, Data, null, boolean, number, string, array, object, Items, no_items, item, Members, no_members, member}
 use Rattle.serde_json.specs.Find.{as_integer, as_u64}
 use Rattle.utoipa_base.specs.Kinds.{ObjectType, reference_object, one_of_schema, all_of_schema, any_of_schema, array_schema, object_schema, type_word, known_format, Kind, text, flag, whole, numeral, any, word_of, version, list_of, map_of, ordered_map_of, entries_of, ref_or, named, schema, schema_type, schema_format, array_items, additional_properties, security_scheme, api_key, flows, Mark, required, optional, or_null, defaulted, Row}
 use Rattle.utoipa_base.specs.Words.{is_word}
 use Rattle.utoipa_base.specs.Version.{read_version}
 use Rattle.utoipa_base.specs.Choices.{chosen, scheme_types, api_key_places, flow_keys, schema_keywords}
-use Rattle.utoipa_base.specs.Docs.{Doc, int_doc, uint_doc, whole_doc, word_doc, types_doc, none_doc, some_doc, ref_doc, own_doc, schema_doc, tagged_doc, flow_doc, list_doc, map_doc, ordered_map_doc, entries_doc, table_doc, Docs, doc, Entries, no_entries, entry}
+use Rattle.utoipa_base.specs.Docs.{Doc, int_doc, uint_doc, whole_doc, word_doc, types_doc, none_doc, some_doc, ref_doc, own_doc, schema_doc, tagged_doc, flow_doc, list_doc, map_doc, ordered_map_doc, entries_doc, table_doc, Docs, Entries, no_entries, entry}
 use Rattle.utoipa_base.specs.ByName.{put_entry, put_entries, by_name}
 use Rattle.utoipa_base.specs.Tables.{table, has_extensions}
-use Rattle.utoipa_base.specs.Extensions.{is_extension, all_extensions, extension_members, extensions_of, some_if_any, members_or_none}
-use Rattle.utoipa_base.specs.Reading.{both, both_entries, or_else, only_if, Part, Parts, part, entry_parts, empty_doc, fits, read_rows, read_table, read_items, read_entries, is_named, read_schema, read_ref_or, text_at, read_alternative, read_tagged, read_api_key, read_scheme, read_flow, read_flows, read_null, read_boolean, numeral_doc, read_number, read_word, read_format, read_string, read_array, read_object, reader, item_readers, parts, read}
+use Rattle.utoipa_base.specs.Extensions.{is_extension, all_extensions, extension_members, extensions_of, some_if_any}
+use Rattle.utoipa_base.specs.Reading.{both, both_entries, or_else, only_if, Part, Parts, part, entry_parts, empty_doc, fits, read_rows, read_table, read_items, read_entries, is_named, read_schema, read_ref_or, text_at, read_alternative, read_api_key, read_scheme, read_flow, read_flows, read_null, read_boolean, numeral_doc, read_number, read_word, read_format, read_string, read_array, read_object, reader, item_readers, parts, read}
 use Rattle.utoipa_base.specs.Writing.{write}
 use Rattle.utoipa_base.specs.WellFormed.{AllExtensions, names_no_extension, KeyOf, IsNoReference, IsUnambiguous, AreUnambiguous, AreUnambiguousEntries, ReadsAs, IsWellFormed}
 use Rattle.utoipa_base.proofs.BoolFacts.{and_first, and_second}
 use Rattle.utoipa_base.proofs.Plain.{read_plain}
 use Rattle.utoipa_base.proofs.Results.{if_is, if_map, if_made, if_else, by_order}
-use Rattle.utoipa_check.specs.Doubts.{row_doubts, rows_doubts, meant_doubts, schema_doubts, reference_doubts, array_doubts, alternative_doubts, api_key_doubts, scheme_doubts, flow_doubts, flows_doubts, own_doubts, object_doubts, doubter, item_doubters, doubters, doubts}
-use Rattle.utoipa_check.specs.Misfits.{Step, at_name, at_index, Cause, Misfits, here, under, is_fit, Check, Checks, check_at, entry_checks, items_misfits, entries_misfits, flow_misfits, table_misfits, object_misfits, meant_schema, checker, checks, misfits}
-use Rattle.utoipa_check.specs.Places.{chosen_at}
+use Rattle.utoipa_check.specs.Doubts.{row_doubts, rows_doubts, meant_doubts, reference_doubts, array_doubts, alternative_doubts, api_key_doubts, scheme_doubts, flow_doubts, flows_doubts, own_doubts, object_doubts, doubter, item_doubters, doubters, doubts}
+use Rattle.utoipa_check.specs.Misfits.{Step, at_name, at_index, Cause, Misfits, here, under, is_fit, Check, Checks, check_at, entry_checks, items_misfits, entries_misfits, flow_misfits, table_misfits, object_misfits, meant_schema, checker, checks}
 use Rattle.utoipa_check.specs.Taken.{taken_schema}
 use Rattle.utoipa_check.specs.Views.{takes_references, object_kind}
-use Rattle.utoipa_check.proofs.Exact.{Agree, CheckAgrees, ChecksAgree, flow_agrees, members_agree, misfits_exact}
+use Rattle.utoipa_check.proofs.Exact.{Agree, ChecksAgree, flow_agrees, members_agree, misfits_exact}
 use Rattle.utoipa_check.proofs.Unreferred.{NoTextAt, unreferred}
 
 -- ---- no misfits

@@ -12,7 +12,7 @@ use Rattle.serde_json.specs.Find.{as_str, get, get_member}
 use Rattle.serde_json.proofs.Views.{get_member-put, get_member-put_other}
 use Rattle.utoipa_base.specs.Kinds.{ObjectType, reference_object, one_of_schema, all_of_schema, any_of_schema, array_schema, object_schema, Kind, text, flag, any, list_of, map_of, ordered_map_of, entries_of, ref_or, named, schema, schema_type, array_items, additional_properties, security_scheme, api_key, flows, Mark, required, optional, or_null, defaulted, Row}
 use Rattle.utoipa_base.specs.Choices.{chosen, scheme_types, api_key_places, flow_keys, schema_keywords}
-use Rattle.utoipa_base.specs.Docs.{Doc, none_doc, ref_doc, own_doc, schema_doc, tagged_doc, map_doc, ordered_map_doc, entries_doc, table_doc, Docs, doc, Entries, no_entries, entry}
+use Rattle.utoipa_base.specs.Docs.{Doc, ref_doc, own_doc, schema_doc, tagged_doc, map_doc, ordered_map_doc, entries_doc, table_doc, Docs, Entries, no_entries, entry}
 use Rattle.utoipa_base.specs.ByName.{put_entry, put_entries, by_name}
 use Rattle.utoipa_base.specs.Tables.{table, has_extensions}
 use Rattle.utoipa_base.specs.Extensions.{is_extension, extension_members, extensions_of, some_if_any, members_or_none}

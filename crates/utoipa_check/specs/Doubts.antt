@@ -17,7 +17,7 @@
 --   {"$ref":"#/a","type":3}                 reads as the reference that was meant: no doubt
 --   {"type":3}                              reads as nothing: a misfit, and no doubt
 -- Of OAuth flows:
---   {"foo":{"tokenUrl":"u","scopes":{}}}    `foo` is none of the names, and what it is reads as a flow of `password`
+--   {"foo":{"tokenUrl":"u","scopes":{}}}    reads as a flow of `password`, and `foo` is none of the names
 --   {"foo":{"scopes":{}}}                   reads as nothing: a misfit, and no doubt
 use Rattle.std.specs.Prelude.{ℕ, List, [], ◌∷◌, ◌++◌, Bool, true, false, if◌then◌else◌, Option, None, Some, codes}
 use Rattle.serde_json.specs.Data.{Data, null, boolean, number, string, array, object, Items, no_items, item, Members, no_members, member}

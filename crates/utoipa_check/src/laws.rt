@@ -6,9 +6,11 @@ ghost use Rattle.utoipa_base.specs.Docs.{Doc};
 ghost use Rattle.utoipa_base.specs.Kinds.{Kind};
 ghost use Rattle.utoipa_base.specs.Reading.{read};
 ghost use Rattle.utoipa_base.specs.WellFormed.{IsUnambiguous, IsWellFormed, ReadsAs};
+ghost use Rattle.utoipa_base.specs.Writing.{write};
 ghost use Rattle.utoipa_check.specs.Doubts.{doubts};
 ghost use Rattle.utoipa_check.specs.Misfits.{misfits, misfits_and_fractions, is_fit};
 ghost use Rattle.utoipa_check.specs.Truth.{AllTrue};
+ghost use Rattle.utoipa_check.specs.Within.{IsWithin};
 
 use serde_json::Value;
 
@@ -28,6 +30,14 @@ pub fn without_doubts_well_formed(tree: &Value)
     ensures well_formed { (k : Kind) → (d : Doc) → doubts k (view tree.now) ≡ [] → ReadsAs k (view tree.now) d → IsWellFormed d }
     ensures with_fractions { (k : Kind) → (d : Doc) → doubts k (view tree.now) ≡ [] → read k (view tree.now) ≡ Some d
         → IsUnambiguous d }
+{
+    let _tree = tree;
+}
+
+/// A document that was read of a tree is written with no place besides those of the tree, but that external docs without a `description` are
+/// written with null there.
+pub fn nothing_is_written_besides(tree: &Value)
+    ensures { (k : Kind) → (d : Doc) → read k (view tree.now) ≡ Some d → IsWithin (write d) (view tree.now) }
 {
     let _tree = tree;
 }
