@@ -334,6 +334,10 @@ pub struct Choice {
             text += "".join("    %s,\n" % parsed(chosen) for _, chosen in found) + "];\n"
             text += "\n/// The kinds of OAuth flows.\npub fn flow_kinds() -> &'static [Kind]\n"
             text += "    ensures { kinds_of result.now ≡ flow_kinds specs.flow_keys }\n{\n    &FLOW_KINDS\n}\n"
+            text += "\nstatic FLOW_NAMES: [&str; %d] = [\n" % len(found)
+            text += "".join('    "%s",\n' % word for word, _ in found) + "];\n"
+            text += "\n/// The keys of [`flow_keys`].\npub fn flow_names() -> &'static [&'static str]\n"
+            text += "    ensures { texts result.now ≡ words_of_choices (flow_choices specs.flow_keys) }\n{\n    &FLOW_NAMES\n}\n"
         else:
             word_name = {"scheme_types": "scheme_type_words", "api_key_places": "api_key_place_words"}[name]
             text += "\nstatic %s: [&str; %d] = [\n" % (word_name.upper(), len(found))

@@ -1,24 +1,26 @@
 -- Each doubt is true: its steps lead to a tree, of which its cause holds.
-use Rattle.std.proofs.Common.{◌≡◌, inl, inr, ℕ, suc, ◌+◌, List, [], ◌∷◌, Bool, true, false, cond, nat_cmp, codes, Option, Some, None, refl, sym, subst, ◌∙◌, Ordering, Less, Equal, Greater, arith, true≢false}
+use Rattle.std.proofs.Common.{◌≡◌, inl, inr, ℕ, suc, ◌+◌, List, [], ◌∷◌, Bool, true, false, cond, nat_cmp, codes, Option, Some, None, option_and_then, is_some, refl, sym, ap, subst, ◌∙◌, Ordering, Less, Equal, Greater, arith, true≢false}
 use Rattle.std.specs.Ordering.{match_ordering}
 use Rattle.std.specs.Cmp.Lexicographic.{slice_cmp}
 use Rattle.std.proofs.lemmas.Map.Lookups.{exact_bytes}
 use Rattle.serde_json.specs.Data.{Data, null, boolean, number, string, array, object, Items, no_items, item, Members, no_members, member}
-use Rattle.serde_json.specs.Find.{get_item}
-use Rattle.utoipa_base.specs.Choices.{is_schema_type}
-use Rattle.utoipa_base.specs.Kinds.{ObjectType, reference_object, one_of_schema, all_of_schema, any_of_schema, array_schema, object_schema, Kind, list_of, map_of, ordered_map_of, entries_of, ref_or, named, schema, array_items, additional_properties, Mark, required, optional, or_null, defaulted, Row}
+use Rattle.serde_json.specs.Find.{as_str, get_member, get_item}
+use Rattle.serde_json.specs.Written.{has_float}
+use Rattle.utoipa_base.specs.Choices.{chosen, scheme_types, api_key_places, flow_keys, is_schema_type}
+use Rattle.utoipa_base.specs.Kinds.{ObjectType, reference_object, one_of_schema, all_of_schema, any_of_schema, array_schema, object_schema, Kind, list_of, map_of, ordered_map_of, entries_of, ref_or, named, schema, array_items, additional_properties, security_scheme, api_key, flows, Mark, required, optional, or_null, defaulted, Row}
 use Rattle.utoipa_base.specs.Extensions.{is_extension}
 use Rattle.utoipa_base.specs.Reading.{is_null, is_named}
 use Rattle.utoipa_base.specs.Tables.{table}
 use Rattle.utoipa_check.specs.Taken.{taken_schema}
-use Rattle.utoipa_check.specs.Doubts.{row_doubts, rows_doubts, meant_doubts, schema_doubts, reference_doubts, array_doubts, own_doubts, object_doubts, doubter, item_doubters, doubters, doubts}
-use Rattle.utoipa_check.specs.Misfits.{at_name, at_index, Misfits, under, is_fit, Check, Checks, check_at, entry_checks, items_misfits, entries_misfits, table_misfits, object_misfits, fits_table, fits_schema, may_be_object, meant_schema, checker, checks}
+use Rattle.utoipa_check.specs.Doubts.{row_doubts, rows_doubts, meant_doubts, schema_doubts, reference_doubts, array_doubts, alternative_doubts, api_key_doubts, scheme_doubts, flow_doubts, flows_doubts, own_doubts, object_doubts, doubter, item_doubters, doubters, doubts}
+use Rattle.utoipa_check.specs.Misfits.{at_name, at_index, unknown_name, Misfits, flow_misfits, under, is_fit, Check, Checks, check_at, entry_checks, items_misfits, entries_misfits, table_misfits, object_misfits, fits_table, fits_schema, may_be_object, meant_schema, checker, checks, without_fractions}
 use Rattle.utoipa_check.specs.IsDropped.{IsMember}
-use Rattle.utoipa_check.specs.Truth.{Due, of_kind, IsTakenAsTable, IsTakenAsReference, IsNoReference, IsTakenAs, IsRow, HasToFit, AllTrueAt, AllTrue}
+use Rattle.utoipa_check.specs.Truth.{Due, of_kind, of_any_flow, flow_due, Chooses, IsTakenAsTable, IsTakenAsReference, IsNoReference, IsTakenAs, IsRow, HasToFit, AllTrueAt, AllTrue}
+use Rattle.utoipa_check.specs.Places.{chosen_at}
 use Rattle.utoipa_check.specs.Views.{object_kind}
 use Rattle.utoipa_check.proofs.Exact.{misfits_exact}
-use Rattle.utoipa_check.proofs.Sound.{refused, meant_is, as_meant, AllDue, all_due, entries_due, table_sound}
-use Rattle.utoipa_check.proofs.Trues.{as_wider, as_own, as_table, join_true, either_true, under_true}
+use Rattle.utoipa_check.proofs.Sound.{all_kept, refused, chooses_as, meant_is, as_meant, AllDue, all_due, entries_due, table_sound}
+use Rattle.utoipa_check.proofs.Trues.{as_wider, as_own, as_table, join_true, either_true, under_true, here_true}
 
 -- ---- arrays
 
@@ -160,6 +162,49 @@ schema_true ms ds h =
     (either_true (of_kind schema) (object ms) (fits_schema ms (checks ms)) meant [] (as_meant ms meant (table_sound (meant_schema ms) ms)) tt)
     (as_table (taken_schema ms (checks ms)) (object ms) (taken_is ms) kept (table_true (taken_schema ms (checks ms)) ms ds h))
 
+-- ---- security schemes and flows
+
+-- the word of a member that chooses a kind
+text_chooses : (o : Option Data) (choices : List (List ℕ × Kind)) (k : Kind) → option_and_then (λ word. chosen word choices) (option_and_then as_str o) ≡ Some k → (word : List ℕ) × (o ≡ Some (string word)) × (chosen word choices ≡ Some k)
+text_chooses None choices k e = absurd (true≢false (sym (ap is_some e)))
+text_chooses (Some null) choices k e = absurd (true≢false (sym (ap is_some e)))
+text_chooses (Some (boolean b)) choices k e = absurd (true≢false (sym (ap is_some e)))
+text_chooses (Some (number n)) choices k e = absurd (true≢false (sym (ap is_some e)))
+text_chooses (Some (string s)) choices k e = (s, refl, e)
+text_chooses (Some (array ds)) choices k e = absurd (true≢false (sym (ap is_some e)))
+text_chooses (Some (object ms)) choices k e = absurd (true≢false (sym (ap is_some e)))
+
+chooses : (name : List ℕ) (choices : List (List ℕ × Kind)) (ms : Members) (k : Kind) → chosen_at name choices ms ≡ Some k → Chooses name choices (object ms) k
+chooses name choices ms k e = text_chooses (get_member name ms) choices k e
+
+key_true : (ms : Members) (ds : Checks) → DoubtsTrue ms ds → (o : Option Kind) → chosen_at (codes "in") api_key_places ms ≡ o → AllTrue api_key (object ms) (alternative_doubts o ds)
+key_true ms ds h (Some (named n)) e =
+    as_wider (named n) api_key (object ms) (λ j is. inr (chooses_as (codes "in") api_key_places (object ms) (named n) j (chooses (codes "in") api_key_places ms (named n) e) is)) (rows_doubts (table n) ds) (table_true n ms ds h)
+key_true ms ds h o e = tt
+
+api_key_true : (ms : Members) (ds : Checks) → DoubtsTrue ms ds → AllTrue api_key (object ms) (api_key_doubts ms ds)
+api_key_true ms ds h = key_true ms ds h (chosen_at (codes "in") api_key_places ms) refl
+
+scheme_true : (ms : Members) (ds : Checks) → DoubtsTrue ms ds → (o : Option Kind) → chosen_at (codes "type") scheme_types ms ≡ o → AllTrue security_scheme (object ms) (scheme_doubts o ms ds)
+scheme_true ms ds h (Some api_key) e =
+    as_wider api_key security_scheme (object ms) (λ j taken. inr (inr (chooses (codes "type") scheme_types ms api_key e, taken))) (api_key_doubts ms ds) (api_key_true ms ds h)
+scheme_true ms ds h (Some (named n)) e =
+    as_wider (named n) security_scheme (object ms) (λ j is. inr (inl (chooses_as (codes "type") scheme_types (object ms) (named n) j (chooses (codes "type") scheme_types ms (named n) e) is))) (rows_doubts (table n) ds) (table_true n ms ds h)
+scheme_true ms ds h o e = tt
+
+flow_true : (o : Option ObjectType) (e : Data) (c d : Kind → Misfits) → ((k : Kind) → AllTrue k e (d k)) → AllTrueAt (flow_due o) e (flow_doubts o c d)
+flow_true (Some n) e c d h = h (named n)
+flow_true None e c d h = either_true of_any_flow e (is_fit (flow_misfits None c)) _ [] (here_true (unknown_name _) of_any_flow e refl (refl, refl)) tt
+
+flows_true : (all : Members) (cs ds : Checks) → DoubtsTrue all ds → AllTrue flows (object all) (flows_doubts cs ds)
+flows_true all [] ds h = tt
+flows_true all (c ∷ cs) [] h = tt
+flows_true all (c ∷ cs) (d ∷ ds) h =
+    let n = chosen d.0 flow_keys in
+    join_true (of_kind flows) (object all) (under (at_name d.0) (flow_doubts n c.1.1 d.1.1)) (flows_doubts cs ds)
+    (under_true (at_name d.0) flows (object all) (flow_due n) h.0.0 h.0.1 refl (flow_doubts n c.1.1 d.1.1) (flow_true n h.0.0 c.1.1 d.1.1 h.0.2))
+    (flows_true all cs ds h.1)
+
 reference_true : (e : Due) (d : Data) (b : Bool) (rs ms ds : Misfits) → (b ≡ true → AllTrueAt e d rs) → (b ≡ false → AllTrueAt e d ds) → (is_fit rs ≡ false → AllTrueAt e d ds) → AllTrueAt e d (reference_doubts b rs ms ds)
 reference_true e d false rs ms ds f g h = g refl
 reference_true e d true [] ms ds f g h = tt
@@ -174,6 +219,9 @@ own_true ms ds h (ordered_map_of k) = entries_true (ordered_map_of k) k ms ds (a
 own_true ms ds h (entries_of k) = entries_true (entries_of k) k ms (entry_checks ds) (entries_due k ds) (entry_checks_true ms ds h)
 own_true ms ds h (named n) = table_true n ms ds h
 own_true ms ds h schema = schema_true ms ds h
+own_true ms ds h security_scheme = scheme_true ms ds h (chosen_at (codes "type") scheme_types ms) refl
+own_true ms ds h api_key = api_key_true ms ds h
+own_true ms ds h flows = flows_true ms (checks ms) ds h
 own_true ms ds h k = tt
 
 -- where no reference stands, what an object of the kind is taken as otherwise
@@ -223,3 +271,7 @@ mutual
 -- each doubt is true
 pub doubts_sound : (k : Kind) (t : Data) → AllTrue k t (doubts k t)
 doubts_sound k t = tree_sound t k
+
+-- of a plain tree none is a fraction
+pub doubts_kept : (k : Kind) (t : Data) → has_float t ≡ false → without_fractions (doubts k t) ≡ doubts k t
+doubts_kept k t plain = all_kept (of_kind k) t plain (doubts k t) (doubts_sound k t)

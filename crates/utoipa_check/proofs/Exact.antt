@@ -74,7 +74,7 @@ or_same {b = b} {c = c} e f = ap (λ x. x || c) e ∙ ap (λ x. b || x) f
 
 -- ---- what a check and a reader agree on
 
-abbrev Agree : (Kind → Misfits) → (Kind → Option Doc) → Type 0
+abbrev pub Agree : (Kind → Misfits) → (Kind → Option Doc) → Type 0
 Agree c r = (k : Kind) → is_fit (c k) ≡ is_some (r k)
 
 abbrev AllAgree : List (Kind → Misfits) → List (Kind → Option Doc) → Type 0
@@ -83,10 +83,10 @@ AllAgree [] (r ∷ rs) = ⊥
 AllAgree (c ∷ cs) [] = ⊥
 AllAgree (c ∷ cs) (r ∷ rs) = Agree c r × AllAgree cs rs
 
-abbrev CheckAgrees : Check → Part → Type 0
+abbrev pub CheckAgrees : Check → Part → Type 0
 CheckAgrees c p = (c.0 ≡ p.0) × Agree c.1 p.1
 
-abbrev ChecksAgree : Checks → Parts → Type 0
+abbrev pub ChecksAgree : Checks → Parts → Type 0
 ChecksAgree [] [] = Unit {0}
 ChecksAgree [] (p ∷ ps) = ⊥
 ChecksAgree (c ∷ cs) [] = ⊥
@@ -284,7 +284,7 @@ first_agrees : (fs : List (List ℕ × ObjectType)) (f : Kind → Misfits) (g : 
 first_agrees [] f g h = refl
 first_agrees (c ∷ fs) f g h = or_same (h (named c.1)) (first_agrees fs f g h) ∙ sym (else_some (g (named c.1)) (first_that_fits fs g))
 
-flow_agrees : (o : Option ObjectType) (f : Kind → Misfits) (g : Kind → Option Doc) → Agree f g → is_fit (flow_misfits o f) ≡ is_some (read_flow o g)
+pub flow_agrees : (o : Option ObjectType) (f : Kind → Misfits) (g : Kind → Option Doc) → Agree f g → is_fit (flow_misfits o f) ≡ is_some (read_flow o g)
 flow_agrees (Some n) f g h = h (named n) ∙ sym (map_some flow_doc (g (named n)))
 flow_agrees None f g h =
     unless_fit-fit (list_any (λ k. is_fit (f k)) (flow_kinds flow_keys)) [] (flow_kinds flow_keys)
@@ -340,7 +340,7 @@ mutual
   items_all_agree no_items = tt
   items_all_agree (item d ds) = (tree_agrees d, items_all_agree ds)
 
-  members_agree : (ms : Members) → ChecksAgree (checks ms) (parts ms)
+  pub members_agree : (ms : Members) → ChecksAgree (checks ms) (parts ms)
   members_agree no_members = tt
   members_agree (member k d ms) = (refl, (refl, tree_agrees d), members_agree ms)
 

@@ -27,6 +27,9 @@ pub mod Doubters
 pub mod Copies
 pub mod DoubtsWalked
 pub mod DoubtsSound
+pub mod Unreferred
+pub mod Undoubted
+pub mod Within
 pub mod Leading
 pub mod Mentions
 pub mod MentionsJoined

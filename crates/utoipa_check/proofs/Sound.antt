@@ -17,7 +17,7 @@ use Rattle.utoipa_base.specs.Tables.{table}
 use Rattle.utoipa_base.specs.Extensions.{is_extension}
 use Rattle.utoipa_base.specs.Reading.{is_null, is_named, reader, read}
 use Rattle.utoipa_check.specs.IsDropped.{IsMember, StandsIn}
-use Rattle.utoipa_check.specs.Misfits.{Step, at_name, at_index, Cause, absent, expected, unknown_word, no_alternative, fraction, Misfit, Misfits, here, under, is_fit, mismatch, expect, expect_of, unless_fit, Check, Checks, check_at, entry_checks, row_misfits, rows_misfits, table_misfits, items_misfits, entries_misfits, says_array, meant_schema, fits_schema, schema_misfits, ref_or_misfits, alternative_misfits, chosen_misfits, tagged_misfits, api_key_misfits, scheme_misfits, security_scheme_misfits, flow_misfits, flows_misfits, null_misfits, boolean_misfits, number_misfits, string_misfits, array_misfits, object_misfits, checker, item_checkers, checks, misfits, fractions, items_fractions, members_fractions, is_fraction, without_fractions, misfits_and_fractions}
+use Rattle.utoipa_check.specs.Misfits.{Step, at_name, at_index, Cause, absent, expected, unknown_word, no_alternative, unknown_name, fraction, Misfit, Misfits, here, under, is_fit, mismatch, expect, expect_of, unless_fit, Check, Checks, check_at, entry_checks, row_misfits, rows_misfits, table_misfits, items_misfits, entries_misfits, says_array, meant_schema, fits_schema, schema_misfits, ref_or_misfits, alternative_misfits, chosen_misfits, tagged_misfits, api_key_misfits, scheme_misfits, security_scheme_misfits, flow_misfits, flows_misfits, null_misfits, boolean_misfits, number_misfits, string_misfits, array_misfits, object_misfits, checker, item_checkers, checks, misfits, fractions, items_fractions, members_fractions, is_fraction, without_fractions, misfits_and_fractions}
 use Rattle.utoipa_tables.specs.Tables.{words_of_choices, flow_kinds}
 use Rattle.utoipa_check.specs.Truth.{Due, of_kind, of_any_flow, of_words, IsTakenAsReference, IsNoReference, Chooses, IsTakenAs, IsRow, HasToFit, flow_due, Stands, IsDueBehind, kind_at, Requires, IsNoneOf, is_container, sort, IsOfAnotherSort, words_at, Reaches, IsFraction, IsTrueAt, AllTrueAt, AllTrue}
 use Rattle.utoipa_check.proofs.Exact.{misfits_exact, fractions_exact, join_fit, and_same, unless_fit-fit}
@@ -202,7 +202,7 @@ got_by_order P Less u w d e q f g h = f q
 got_by_order P Equal u w d e q f g h = g refl (ap (λ o. value_or o d) q)
 got_by_order P Greater u w d e q f g h = h q
 
-got_member : (name : List ℕ) (ms : Members) (e : Data) → get_member name ms ≡ Some e → IsMember name e ms
+pub got_member : (name : List ℕ) (ms : Members) (e : Data) → get_member name ms ≡ Some e → IsMember name e ms
 got_member name no_members e h = absurd (true≢false (sym (ap is_some h)))
 got_member name (member k d ms) e h =
     got_by_order (IsMember name e (member k d ms)) (slice_cmp nat_cmp name k) (get_member name ms) (get_member name ms) d e h (λ q. inr (got_member name ms e q)) (λ same q. inl (exact_bytes name k same, sym q)) (λ q. inr (got_member name ms e q))
@@ -360,7 +360,7 @@ chosen_key : (s : List ℕ) (cs : List (List ℕ × Kind)) → all_keys cs → (
 chosen_key s [] h k e = absurd (true≢false (sym (ap is_some e)))
 chosen_key s (c ∷ cs) h k e = key_by (bytes_eq s c.0) c.1 k (chosen s cs) h.0 (chosen_key s cs h.1 k) e
 
-chooses_as : (name : List ℕ) (choices : List (List ℕ × Kind)) (t : Data) (k j : Kind) → Chooses name choices t k → j ≡ k → Chooses name choices t j
+pub chooses_as : (name : List ℕ) (choices : List (List ℕ × Kind)) (t : Data) (k j : Kind) → Chooses name choices t k → j ≡ k → Chooses name choices t j
 chooses_as name choices t k j h is = subst (λ l. Chooses name choices t l) (sym is) h
 
 by_test : (b : Bool) (k : Kind) (o : Option Kind) (r : Bool) → (o ≡ None → r ≡ false) → cond b (Some k) o ≡ None → b || r ≡ false
@@ -572,9 +572,10 @@ no_fraction (absent name) p e d plain h = refl
 no_fraction (expected k) p e d plain h = refl
 no_fraction (unknown_word ws) p e d plain h = refl
 no_fraction (no_alternative ks) p e d plain h = refl
+no_fraction (unknown_name ns) p e d plain h = refl
 no_fraction fraction p e d plain h = absurd (true≢false (sym (reached p d h.0 h.1 h.2) ∙ plain))
 
-all_kept : (e : Due) (d : Data) → has_float d ≡ false → (xs : Misfits) → AllTrueAt e d xs → without_fractions xs ≡ xs
+pub all_kept : (e : Due) (d : Data) → has_float d ≡ false → (xs : Misfits) → AllTrueAt e d xs → without_fractions xs ≡ xs
 all_kept e d plain [] h = refl
 all_kept e d plain (x ∷ xs) h = ap (λ b. cond b (without_fractions xs) (x ∷ without_fractions xs)) (no_fraction x.1 x.0 e d plain h.0) ∙ ap (λ ys. x ∷ ys) (all_kept e d plain xs h.1)
 

@@ -3,7 +3,7 @@ use Rattle.std.proofs.Common.{inl, inr, List, [], ◌∷◌, ◌++◌, Bool, tru
 use Rattle.serde_json.specs.Data.{Data}
 use Rattle.utoipa_base.specs.Kinds.{ObjectType, Kind, ref_or, named, schema, array_items, additional_properties, security_scheme, api_key}
 use Rattle.utoipa_check.specs.IsDropped.{StandsIn}
-use Rattle.utoipa_check.specs.Misfits.{Step, Cause, absent, expected, unknown_word, no_alternative, fraction, Misfits, here, under}
+use Rattle.utoipa_check.specs.Misfits.{Step, Cause, absent, expected, unknown_word, no_alternative, unknown_name, fraction, Misfits, here, under}
 use Rattle.utoipa_check.specs.Truth.{Due, of_kind, IsTakenAsTable, IsNoReference, IsTakenAs, Stands, IsDueBehind, Leads, IsOfAnotherSort, Holds, IsTrueAt, AllTrueAt, AllTrue}
 
 -- ---- as which kind a tree is taken
@@ -35,6 +35,7 @@ true_wider fraction p e f d w h = h
 true_wider (absent name) p e f d w h = (h.0, h.1, leads_wider p e f d w h.0 h.1 h.2, h.3)
 true_wider (expected k) p e f d w h = (h.0, h.1, leads_wider p e f d w h.0 h.1 h.2, h.3)
 true_wider (unknown_word ws) p e f d w h = (h.0, h.1, leads_wider p e f d w h.0 h.1 h.2, h.3)
+true_wider (unknown_name ns) p e f d w h = (h.0, h.1, leads_wider p e f d w h.0 h.1 h.2, h.3)
 true_wider (no_alternative ks) p e f d w h = (h.0, h.1, leads_wider p e f d w h.0 h.1 h.2, h.3)
 
 wider : (e f : Due) (d : Data) → Wider e f d → (xs : Misfits) → AllTrueAt e d xs → AllTrueAt f d xs
@@ -69,6 +70,7 @@ step_true fraction p s k d g i there due h = (h.0, (i, there, h.1), h.2)
 step_true (absent n) p s k d g i there due h = (h.0, h.1, (k, stands k d, (g, i, (there, due), h.2)), h.3)
 step_true (expected l) p s k d g i there due h = (h.0, h.1, (k, stands k d, (g, i, (there, due), h.2)), h.3)
 step_true (unknown_word ws) p s k d g i there due h = (h.0, h.1, (k, stands k d, (g, i, (there, due), h.2)), h.3)
+step_true (unknown_name ns) p s k d g i there due h = (h.0, h.1, (k, stands k d, (g, i, (there, due), h.2)), h.3)
 step_true (no_alternative ks) p s k d g i there due h = (h.0, h.1, (k, stands k d, (g, i, (there, due), h.2)), h.3)
 
 -- what is true of a tree that stands in another is true of it there
@@ -83,6 +85,7 @@ here_true fraction e d s h = ((d, refl, h), tt)
 here_true (absent name) e d s h = ((e, d, (s, refl), h), tt)
 here_true (expected k) e d s h = ((e, d, (s, refl), h), tt)
 here_true (unknown_word ws) e d s h = ((e, d, (s, refl), h), tt)
+here_true (unknown_name ns) e d s h = ((e, d, (s, refl), h), tt)
 here_true (no_alternative ks) e d s h = ((e, d, (s, refl), h), tt)
 
 pub expected_true : (k : Kind) (d : Data) → IsOfAnotherSort k d → AllTrue k d (here (expected k))

@@ -1,8 +1,8 @@
 -- What is in doubt at the places inside a tree.
 use Rattle.std.specs.Prelude.{List, [], ◌∷◌, if◌then◌else◌}
 use Rattle.serde_json.specs.Data.{Data}
-use Rattle.utoipa_check.specs.Doubts.{doubters, doubts, row_doubts}
-use Rattle.utoipa_check.specs.Misfits.{Misfits, check_at}
+use Rattle.utoipa_check.specs.Doubts.{unknown_flow, doubters, doubts, row_doubts}
+use Rattle.utoipa_check.specs.Misfits.{Misfits, check_at, checker}
 use Rattle.utoipa_check.specs.Places.{Target, of_kind, any_flow, no_fraction, Place, Outcome, members_at}
 use Rattle.utoipa_check.specs.Views.{is_kept}
 use Rattle.utoipa_tables.specs.Tables.{kind_of}
@@ -11,7 +11,7 @@ use Rattle.utoipa_tables.specs.declared.kinds.Row.{Row}
 -- what is in doubt, by what a tree is looked at as
 abbrev pub target_doubts : Target → Data → Misfits
 target_doubts (of_kind k) d = doubts k d
-target_doubts any_flow d = []
+target_doubts any_flow d = unknown_flow (checker d)
 target_doubts no_fraction d = []
 
 -- a step, and what is in doubt behind it

@@ -3,6 +3,8 @@
 -- A schema reads by the first of five tables that fits, and each keeps its own members alone. So what is wrong in a member may make the
 -- table fail that was meant, and leave the object to a later table, which drops the member: there is no misfit. What did not fit the table
 -- that was meant is a doubt. The same holds where a reference may stand: an object with a `$ref` that is no text may read as something else.
+-- An OAuth flow is what its name says, and under a name that is none of the five it reads by the first of their tables that fits. Written
+-- again, it may read as another flow: its name is a doubt.
 --
 -- Of schemas where a reference may stand:
 --   {"type":"array","items":{"type":3}}     is meant as an array and reads as an object, which has no `items`: `/items/type` is no type
@@ -14,12 +16,18 @@
 --   {"$ref":3,"type":"string"}              is meant as a reference and reads as an object: `/$ref` is no text
 --   {"$ref":"#/a","type":3}                 reads as the reference that was meant: no doubt
 --   {"type":3}                              reads as nothing: a misfit, and no doubt
+-- Of OAuth flows:
+--   {"foo":{"tokenUrl":"u","scopes":{}}}    reads as a flow of `password`, and `foo` is none of the names
+--   {"foo":{"scopes":{}}}                   reads as nothing: a misfit, and no doubt
 use Rattle.std.specs.Prelude.{ℕ, List, [], ◌∷◌, ◌++◌, Bool, true, false, if◌then◌else◌, Option, None, Some, codes}
 use Rattle.serde_json.specs.Data.{Data, null, boolean, number, string, array, object, Items, no_items, item, Members, no_members, member}
-use Rattle.utoipa_base.specs.Kinds.{reference_object, Kind, list_of, map_of, ordered_map_of, entries_of, ref_or, named, schema, Row}
+use Rattle.utoipa_base.specs.Choices.{chosen, scheme_types, api_key_places, flow_keys}
+use Rattle.utoipa_base.specs.Kinds.{reference_object, Kind, list_of, map_of, ordered_map_of, entries_of, ref_or, named, schema, security_scheme, api_key, flows, Row}
 use Rattle.utoipa_base.specs.Reading.{is_null, is_named}
 use Rattle.utoipa_base.specs.Tables.{table}
-use Rattle.utoipa_check.specs.Misfits.{at_name, Misfits, under, Check, Checks, check_at, entry_checks, items_misfits, entries_misfits, table_misfits, object_misfits, fits_schema, meant_schema, checks}
+use Rattle.utoipa_tables.specs.Tables.{words_of_choices, flow_choices}
+use Rattle.utoipa_check.specs.Misfits.{at_name, unknown_name, Misfits, here, under, is_fit, Check, Checks, check_at, entry_checks, items_misfits, entries_misfits, table_misfits, flow_misfits, object_misfits, fits_schema, meant_schema, checks}
+use Rattle.utoipa_check.specs.Places.{chosen_at}
 use Rattle.utoipa_check.specs.Views.{takes_references, object_kind}
 use Rattle.utoipa_check.specs.Taken.{taken_schema}
 
@@ -52,6 +60,36 @@ reference_doubts true (r ∷ rs) [] ds = (r ∷ rs) ++ ds
 -- it is neither
 reference_doubts true (r ∷ rs) (m ∷ ms) ds = ds
 
+-- ---- security schemes and OAuth flows
+
+-- an alternative that the word of a member has chosen
+abbrev pub alternative_doubts : Option Kind → Checks → Misfits
+alternative_doubts (Some (named n)) ds = rows_doubts (table n) ds
+alternative_doubts o ds = []
+
+abbrev pub api_key_doubts : Members → Checks → Misfits
+api_key_doubts ms ds = alternative_doubts (chosen_at (codes "in") api_key_places ms) ds
+
+-- by what the word of a security scheme has chosen
+abbrev pub scheme_doubts : Option Kind → Members → Checks → Misfits
+scheme_doubts (Some api_key) ms ds = api_key_doubts ms ds
+scheme_doubts o ms ds = alternative_doubts o ds
+
+-- a flow under a name that is none of the five, by what does not fit: where it reads as a flow, its name is in doubt
+abbrev pub unknown_flow : (Kind → Misfits) → Misfits
+unknown_flow c = if is_fit (flow_misfits None c) then here (unknown_name (words_of_choices (flow_choices flow_keys))) else []
+
+-- a flow, by the type that its name has chosen, by what does not fit and by what is in doubt in it
+abbrev pub flow_doubts : Option ObjectType → (Kind → Misfits) → (Kind → Misfits) → Misfits
+flow_doubts (Some n) c d = d (named n)
+flow_doubts None c d = unknown_flow c
+
+-- the flows of an object, by what does not fit and by what is in doubt in each of its members
+abbrev pub flows_doubts : Checks → Checks → Misfits
+flows_doubts [] ds = []
+flows_doubts (c ∷ cs) [] = []
+flows_doubts (c ∷ cs) (d ∷ ds) = under (at_name d.0) (flow_doubts (chosen d.0 flow_keys) c.1.1 d.1.1) ++ flows_doubts cs ds
+
 -- ---- trees of each sort
 
 abbrev pub array_doubts : List (Kind → Misfits) → Kind → Misfits
@@ -59,13 +97,16 @@ array_doubts ds (list_of k) = items_misfits 0 k ds
 array_doubts ds (ref_or k) = array_doubts ds k
 array_doubts ds k = []
 
--- of an object that is no reference. Any tree, security schemes and OAuth flows have no choice but by a word or a key.
+-- of an object that is no reference. Where any tree may stand, nothing is in doubt.
 abbrev pub own_doubts : Members → Checks → Checks → Kind → Misfits
 own_doubts ms cs ds (map_of k) = entries_misfits k ds
 own_doubts ms cs ds (ordered_map_of k) = entries_misfits k ds
 own_doubts ms cs ds (entries_of k) = entries_misfits k (entry_checks ds)
 own_doubts ms cs ds (named n) = rows_doubts (table n) ds
 own_doubts ms cs ds schema = schema_doubts ms cs ds
+own_doubts ms cs ds security_scheme = scheme_doubts (chosen_at (codes "type") scheme_types ms) ms ds
+own_doubts ms cs ds api_key = api_key_doubts ms ds
+own_doubts ms cs ds flows = flows_doubts cs ds
 own_doubts ms cs ds k = []
 
 abbrev pub object_doubts : Members → Checks → Checks → Kind → Misfits

@@ -10,6 +10,7 @@ pub mod Said
 pub mod Dropped
 pub mod Has
 pub mod IsDropped
+pub mod Within
 pub mod DroppedViews
 pub mod Moves
 pub mod Located

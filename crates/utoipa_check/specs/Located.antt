@@ -9,7 +9,7 @@ use Rattle.utoipa_base.specs.Reading.{read}
 use Rattle.utoipa_base.specs.WellFormed.{ReadsAs}
 use Rattle.utoipa_base.specs.declared.fault.ReadFault.{ReadFault}
 use Rattle.utoipa_base.specs.declared.fault.ReadFault.TheVariants.{Memory, Fraction, Missing, Kind, Word, Alternative, Text}
-use Rattle.utoipa_check.specs.Misfits.{Misfit, Misfits, Cause, absent, expected, unknown_word, no_alternative, fraction, misfits, fractions}
+use Rattle.utoipa_check.specs.Misfits.{Misfit, Misfits, Cause, absent, expected, unknown_word, no_alternative, unknown_name, fraction, misfits, fractions}
 use Rattle.utoipa_check.specs.Pointers.{pointer_text}
 use Rattle.utoipa_check.specs.Views.{cause_of}
 use Rattle.utoipa_check.specs.declared.located.FaultPlace.{FaultPlace}
@@ -105,12 +105,13 @@ wanted kinds.security_scheme = codes "security scheme"
 wanted kinds.api_key = codes "security scheme"
 wanted kinds.flows = codes "map"
 
--- the fault that says a cause. A fraction is no cause of a tree that is refused for another reason.
+-- the fault that says a cause. A fraction is no cause of a tree that is refused for another reason, and an unknown name of none that is refused.
 abbrev pub Says : Cause → ReadFault → Type 0
 Says (absent name) (Missing s) = s.now ≡ name
 Says (expected k) (Kind s) = s.now ≡ wanted k
 Says (unknown_word ws) (Word s) = Unit {0}
 Says (no_alternative ks) Alternative = Unit {0}
+Says (unknown_name ns) (Word s) = Unit {0}
 Says fraction f = Unit {0}
 Says c f = ⊥
 

@@ -32,6 +32,8 @@ pub data Cause : Type 0 where
   unknown_word : List (List ℕ) → Cause
   -- a tree that is of none of these kinds
   no_alternative : List Kind → Cause
+  -- a tree under a name that is none of these, which would say what it is. It is read as one of them, and so no misfit has this cause
+  unknown_name : List (List ℕ) → Cause
   -- a number that is neither an i64 nor a u64, which no document holds, whatever its place expects
   fraction : Cause
 
@@ -326,6 +328,7 @@ is_fraction (absent name) = false
 is_fraction (expected k) = false
 is_fraction (unknown_word ws) = false
 is_fraction (no_alternative ks) = false
+is_fraction (unknown_name ns) = false
 is_fraction fraction = true
 
 -- misfits without the fractions among them

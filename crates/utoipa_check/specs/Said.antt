@@ -4,7 +4,7 @@ use Rattle.std.specs.List.{flat_map}
 use Rattle.utoipa_base.specs.Kinds.{Kind, text, flag, whole, numeral, any, word_of, version, list_of, map_of, ordered_map_of, entries_of, ref_or, named, schema, schema_type, schema_format, array_items, additional_properties, security_scheme, api_key, flows}
 use Rattle.utoipa_tables.specs.Titles.{type_title}
 use Rattle.utoipa_check.specs.Dropped as losses
-use Rattle.utoipa_check.specs.Misfits.{Cause, absent, expected, unknown_word, no_alternative, fraction, Misfit}
+use Rattle.utoipa_check.specs.Misfits.{Cause, absent, expected, unknown_word, no_alternative, unknown_name, fraction, Misfit}
 use Rattle.utoipa_check.specs.Pointers.{shown_pointer}
 use Rattle.utoipa_check.specs.References.{Reference}
 use Rattle.utoipa_check.specs.Referring.{State, dangling, resolved, external}
@@ -60,6 +60,7 @@ cause_text (absent name) = codes "the member `" ++ shown name ++ codes "` is req
 cause_text (expected k) = expectation k ++ codes " is expected"
 cause_text (unknown_word ws) = codes "one of these words is expected: " ++ words_text ws
 cause_text (no_alternative ks) = codes "this is not " ++ kinds_text ks
+cause_text (unknown_name ns) = codes "this name is none of " ++ words_text ns
 cause_text fraction = codes "the number is not an integer of 64 bits"
 
 -- the JSON Pointer of the place, and the cause

@@ -16,9 +16,9 @@ use Rattle.utoipa_base.specs.Kinds.{ObjectType, reference_object, type_word, Kin
 use Rattle.utoipa_base.specs.Reading.{is_null, read}
 use Rattle.utoipa_base.specs.Tables.{table}
 use Rattle.utoipa_base.specs.Words.{words}
-use Rattle.utoipa_tables.specs.Tables.{words_of_choices, flow_kinds}
+use Rattle.utoipa_tables.specs.Tables.{words_of_choices, flow_choices, flow_kinds}
 use Rattle.utoipa_check.specs.IsDropped.{StandsIn}
-use Rattle.utoipa_check.specs.Misfits.{Step, at_name, at_index, Cause, absent, expected, unknown_word, no_alternative, fraction, Misfits, meant_schema}
+use Rattle.utoipa_check.specs.Misfits.{Step, at_name, at_index, Cause, absent, expected, unknown_word, no_alternative, unknown_name, fraction, Misfits, meant_schema}
 use Rattle.utoipa_check.specs.Places.{members_at}
 
 -- ---- what is due at a place
@@ -207,6 +207,10 @@ abbrev pub IsNoneOf : List Kind → Data → Type 0
 IsNoneOf [] t = Unit {0}
 IsNoneOf (k ∷ ks) t = (read k t ≡ None) × IsNoneOf ks t
 
+-- a tree is an OAuth flow under a name that is none of these, and these are the names of flows
+abbrev pub IsUnderNoName : List (List ℕ) → Due → Type 0
+IsUnderNoName ns e = (e ≡ of_any_flow) × (ns ≡ words_of_choices (flow_choices flow_keys))
+
 -- a tree is a number that is neither an i64 nor a u64
 abbrev pub IsFraction : Data → Type 0
 IsFraction t = (n : Num) × (t ≡ number n) × (is_float n ≡ true)
@@ -217,6 +221,7 @@ Holds (absent name) e t = IsRequiredAt e name × Lacks name t
 Holds (expected k) e t = (kind_at e ≡ Some k) × IsOfAnotherSort k t
 Holds (unknown_word ws) e t = (words_at e ≡ Some ws) × IsNoWord ws t
 Holds (no_alternative ks) e t = (kinds_at e ≡ ks) × IsNoneOf ks t
+Holds (unknown_name ns) e t = IsUnderNoName ns e
 Holds fraction e t = IsFraction t
 
 -- ---- misfits

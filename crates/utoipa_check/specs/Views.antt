@@ -34,6 +34,7 @@ cause_of (causes.Absent s) = specs.absent s.now
 cause_of (causes.Expected k) = specs.expected (kind_of k)
 cause_of (causes.UnknownWord ws) = specs.unknown_word (texts ws.now)
 cause_of (causes.NoAlternative ks) = specs.no_alternative (kinds_of ks.now)
+cause_of (causes.UnknownName ns) = specs.unknown_name (texts ns.now)
 cause_of causes.Fraction = specs.fraction
 
 -- the steps, the last of which comes first, before others

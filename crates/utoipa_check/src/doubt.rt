@@ -50,7 +50,8 @@ fn end_doubts<'a>(
 ///
 /// A schema reads by the first of five tables that fits, and each keeps its own members alone: so `{"type":"array","items":{"type":3}}`
 /// reads as an object without `items`, and has no misfit. It was meant as an array, since it says so, and what does not fit an array is
-/// in doubt, here `/items/type`. An object with a `$ref` where a reference may stand was meant as one, whatever it reads as. Of each choice
+/// in doubt, here `/items/type`. An object with a `$ref` where a reference may stand was meant as one, whatever it reads as. An OAuth flow
+/// under a name that is none of the five reads by the first of their tables that fits, and its name is in doubt. Of each choice
 /// that reads as it was meant, and of each that reads as nothing, which is a misfit, none is in doubt. Those inside a member are
 /// listed where it is kept.
 ///

@@ -9,20 +9,21 @@ ghost use Rattle.utoipa_check.specs.Doubts as specs;
 ghost use Rattle.utoipa_check.specs.Misfits as misfits;
 ghost use Rattle.utoipa_check.specs.Misfits.{checks};
 ghost use Rattle.utoipa_check.specs.Places as places;
-ghost use Rattle.utoipa_check.specs.Places.{outcomes, inner_places, field_places, fields_places, object_places, kind_layout, array_places, item_target, of_kind, items_at, members_at};
+ghost use Rattle.utoipa_check.specs.Places.{outcomes, inner_places, field_places, fields_places, object_places, kind_layout, api_key_layout, array_places, item_target, of_kind, any_flow, items_at, members_at};
 ghost use Rattle.utoipa_check.specs.Views.{misfits_of, stacked, target_of, is_reference, takes_references};
 ghost use Rattle.utoipa_tables.specs.Tables.{kind_of, rows_of, members_of, schema_members};
 
+use crate::choice::chosen_at;
 use crate::copied::all_copied;
 use crate::layout::Target;
 use crate::leaf::own_kind;
-use crate::misfit::{Misfit, Outcome, is_fit, join_all, put_under};
+use crate::misfit::{Cause, Misfit, Outcome, here, is_fit, join_all, put_under};
 use crate::object::{object_kind, own_misfits, reference_misfits, takes_references};
 use crate::rows::{fits_rows, is_kept, misfits_by_rows};
-use crate::schema::{fits_schema, meant_schema, taken_schema};
+use crate::schema::{any_flow_misfits, fits_schema, meant_schema, taken_schema};
 use serde_json::Value;
 use std::alloc::{AllocError, Global};
-use utoipa_tables::{Kind, Row, rows, schema_rows};
+use utoipa_tables::{Kind, Row, api_key_places, flow_names, rows, schema_rows, scheme_types};
 
 /// Adds what is in doubt by one row, and takes off what is in doubt in its member, if that is there. Fails where memory runs out.
 fn put_row_doubts<'a>(
@@ -108,6 +109,42 @@ fn schema_doubts<'a>(
     Ok(found)
 }
 
+/// What is in doubt in an API key, by its member `in` (Security Scheme Object: section 4.8.27). Fails where memory runs out.
+fn api_key_doubts<'a>(
+    alloc: Global,
+    tree: &'a Value,
+    inner: Vec<Outcome<'a>>,
+) -> Result<Vec<Misfit<'a>>, AllocError>
+    requires { stacked inner.items
+        ≡ all_doubted (object_places (api_key_layout (members_at (view tree.now))) (view tree.now)) }
+    ensures { IfOk result
+        (λ v. misfits_of v.items ≡ specs.api_key_doubts (members_at (view tree.now)) (specs.doubters (members_at (view tree.now)))) }
+{
+    match chosen_at(tree, "in", api_key_places()) {
+        Some(Kind::Named(object_type)) => doubts_by_rows(alloc, rows(object_type), tree, inner),
+        _ => Ok(Vec::new(alloc)),
+    }
+}
+
+/// What is in doubt in a security scheme, by its member `type` (Security Scheme Object: section 4.8.27). Fails where memory runs out.
+fn scheme_doubts<'a>(
+    alloc: Global,
+    tree: &'a Value,
+    inner: Vec<Outcome<'a>>,
+) -> Result<Vec<Misfit<'a>>, AllocError>
+    requires { stacked inner.items
+        ≡ all_doubted (object_places (kind_layout kinds.security_scheme (members_at (view tree.now))) (view tree.now)) }
+    ensures { IfOk result
+        (λ v. misfits_of v.items
+        ≡ specs.own_doubts (members_at (view tree.now)) (checks (members_at (view tree.now))) (specs.doubters (members_at (view tree.now))) kinds.security_scheme) }
+{
+    match chosen_at(tree, "type", scheme_types()) {
+        Some(Kind::ApiKey) => api_key_doubts(alloc, tree, inner),
+        Some(Kind::Named(object_type)) => doubts_by_rows(alloc, rows(object_type), tree, inner),
+        _ => Ok(Vec::new(alloc)),
+    }
+}
+
 /// What is in doubt in an object that is no reference. Fails where memory runs out.
 fn own_doubts<'a>(
     alloc: Global,
@@ -126,9 +163,13 @@ fn own_doubts<'a>(
         ≡ specs.own_doubts (members_at (view tree.now)) (checks (members_at (view tree.now))) (specs.doubters (members_at (view tree.now))) (kind_of kind)) }
 {
     match kind {
-        Kind::MapOf(_) | Kind::OrderedMapOf(_) | Kind::EntriesOf(_) => join_all(alloc, inner),
+        Kind::MapOf(_) | Kind::OrderedMapOf(_) | Kind::EntriesOf(_) | Kind::Flows => {
+            join_all(alloc, inner)
+        }
         Kind::Named(object_type) => doubts_by_rows(alloc, rows(object_type), tree, inner),
         Kind::Schema => schema_doubts(alloc, tree, inner_misfits, inner),
+        Kind::SecurityScheme => scheme_doubts(alloc, tree, inner),
+        Kind::ApiKey => api_key_doubts(alloc, tree, inner),
         _ => Ok(Vec::new(alloc)),
     }
 }
@@ -225,6 +266,23 @@ fn document_doubts<'a>(
     }
 }
 
+/// What is in doubt of an OAuth flow under a key that names no type (OAuth Flow Object: section 4.8.29): where it reads as a flow, that key.
+/// Fails where memory runs out.
+fn any_flow_doubts<'a>(
+    alloc: Global,
+    tree: &'a Value,
+    inner_misfits: &[Outcome<'a>],
+) -> Result<Vec<Misfit<'a>>, AllocError>
+    requires { stacked inner_misfits.now ≡ outcomes (inner_places any_flow (view tree.now)) }
+    ensures { IfOk result (λ v. misfits_of v.items ≡ target_doubts any_flow (view tree.now)) }
+{
+    let found = any_flow_misfits(alloc, tree, all_copied(alloc, inner_misfits)?)?;
+    if is_fit(&found) {
+        return here(alloc, Cause::UnknownName(flow_names()));
+    }
+    Ok(Vec::new(alloc))
+}
+
 /// What is in doubt in a tree, of what does not fit and of what is in doubt inside it. Fails where memory runs out.
 pub(crate) fn doubts_from<'a>(
     alloc: Global,
@@ -239,6 +297,7 @@ pub(crate) fn doubts_from<'a>(
 {
     match target {
         Target::Document(kind) => document_doubts(alloc, kind, tree, inner_misfits, inner),
-        _ => Ok(Vec::new(alloc)),
+        Target::AnyFlow => any_flow_doubts(alloc, tree, inner_misfits),
+        Target::NoFraction => Ok(Vec::new(alloc)),
     }
 }

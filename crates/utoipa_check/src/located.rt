@@ -132,7 +132,9 @@ fn saying(cause: Cause, fault: ReadFault) -> ReadFault
     match cause {
         Cause::Absent(name) => ReadFault::Missing(name),
         Cause::Expected(kind) => ReadFault::Kind(wanted(kind)),
-        Cause::UnknownWord(_) => ReadFault::Word("those that may stand here"),
+        Cause::UnknownWord(_) | Cause::UnknownName(_) => {
+            ReadFault::Word("those that may stand here")
+        }
         Cause::NoAlternative(_) => ReadFault::Alternative,
         Cause::Fraction => fault,
     }

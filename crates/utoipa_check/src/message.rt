@@ -92,6 +92,10 @@ impl fmt::Display for Cause {
                 write!(f, "this is not ")?;
                 write_kinds(f, kinds)
             }
+            Cause::UnknownName(names) => {
+                write!(f, "this name is none of ")?;
+                write_words(f, names)
+            }
             Cause::Fraction => write!(f, "the number is not an integer of 64 bits"),
         }
     }

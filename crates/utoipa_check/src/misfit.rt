@@ -27,6 +27,9 @@ pub enum Cause {
     UnknownWord(&'static [&'static str]),
     /// A tree is of none of these kinds.
     NoAlternative(&'static [Kind]),
+    /// A tree stands under a name that is none of these, which would say what it is. It is read all the same, so that no misfit has this
+    /// cause.
+    UnknownName(&'static [&'static str]),
     /// A number is neither an `i64` nor a `u64`: no document holds such a number.
     Fraction,
 }

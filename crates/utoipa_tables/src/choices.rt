@@ -129,3 +129,18 @@ pub fn flow_kinds() -> &'static [Kind]
 {
     &FLOW_KINDS
 }
+
+static FLOW_NAMES: [&str; 5] = [
+    "implicit",
+    "password",
+    "clientCredentials",
+    "authorizationCode",
+    "deviceAuthorization",
+];
+
+/// The keys of [`flow_keys`].
+pub fn flow_names() -> &'static [&'static str]
+    ensures { texts result.now ≡ words_of_choices (flow_choices specs.flow_keys) }
+{
+    &FLOW_NAMES
+}

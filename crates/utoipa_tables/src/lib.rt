@@ -10,8 +10,8 @@ pub mod vocabularies;
 
 pub use alternatives::{FlowAlternative, SchemaAlternative, flow_rows, schema_rows};
 pub use choices::{
-    Choice, api_key_place_words, api_key_places, flow_keys, flow_kinds, scheme_type_words,
-    scheme_types,
+    Choice, api_key_place_words, api_key_places, flow_keys, flow_kinds, flow_names,
+    scheme_type_words, scheme_types,
 };
 pub use kinds::{Kind, Mark, ObjectType, Row, Vocabulary};
 pub use tables::{rows, title};
