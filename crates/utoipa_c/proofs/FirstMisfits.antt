@@ -5,7 +5,7 @@ use Rattle.serde_json.specs.Written.{has_float}
 use Rattle.utoipa_base.specs.Docs.{Doc}
 use Rattle.utoipa_base.specs.Kinds as kinds
 use Rattle.utoipa_base.specs.Reading.{read}
-use Rattle.utoipa_check.specs.Misfits.{Cause, absent, expected, unknown_word, no_alternative, fraction, Misfit, Misfits, is_fit, is_fraction, misfits, fractions, without_fractions, misfits_and_fractions}
+use Rattle.utoipa_check.specs.Misfits.{Cause, absent, expected, unknown_word, no_alternative, unknown_name, fraction, Misfit, Misfits, is_fit, is_fraction, misfits, fractions, without_fractions, misfits_and_fractions}
 use Rattle.utoipa_check.specs.Located.{IsNoDocument}
 use Rattle.utoipa_check.proofs.Exact.{fractions_exact}
 use Rattle.utoipa_check.proofs.Sound.{misfits_and_fractions_exact}
@@ -24,6 +24,7 @@ of_first w m (absent name) ms is rest = ap (λ c. is_of_misfit (refusal_of c)) i
 of_first w m (expected k) ms is rest = ap (λ c. is_of_misfit (refusal_of c)) is
 of_first w m (unknown_word ws) ms is rest = ap (λ c. is_of_misfit (refusal_of c)) is
 of_first w m (no_alternative ks) ms is rest = ap (λ c. is_of_misfit (refusal_of c)) is
+of_first w m (unknown_name ns) ms is rest = ap (λ c. is_of_misfit (refusal_of c)) is
 of_first w m fraction ms is rest = rest
 
 of_others : (w : Refusal) → is_of_misfit w ≡ true → (ms : Misfits) → is_of_misfit (first_or w (without_fractions ms ++ [])) ≡ true

@@ -2,7 +2,7 @@
 use Rattle.std.specs.Prelude.{◌≡◌, ◌⊎◌, ℕ, List, [], ◌∷◌, Bool, true, false, Some}
 use Rattle.serde_json.specs.Data.{Data}
 use Rattle.utoipa_base.specs.Kinds.{Kind}
-use Rattle.utoipa_check.specs.Misfits.{Cause, absent, expected, unknown_word, no_alternative, fraction, Misfits, misfits_and_fractions}
+use Rattle.utoipa_check.specs.Misfits.{Cause, absent, expected, unknown_word, no_alternative, unknown_name, fraction, Misfits, misfits_and_fractions}
 use Rattle.utoipa_findings.specs.Sources.{tree_of}
 use Rattle.utoipa_command.specs.declared.refusal.Refusal.{Refusal}
 use Rattle.utoipa_command.specs.declared.refusal.Refusal.TheVariants.{Memory, Read, Write, Text, Fraction, Missing, Kind as NoKind, Word, Alternative, Empty, Count}
@@ -13,6 +13,8 @@ refusal_of (absent name) = Missing
 refusal_of (expected k) = NoKind
 refusal_of (unknown_word ws) = Word
 refusal_of (no_alternative ks) = Alternative
+-- no misfit has this cause, only a doubt
+refusal_of (unknown_name ns) = Word
 refusal_of fraction = Fraction
 
 -- the refusal that says the first of some misfits; where there are none, another

@@ -50,7 +50,7 @@ fn refusal_of(cause: Cause) -> Refusal
     match cause {
         Cause::Absent(_) => Refusal::Missing,
         Cause::Expected(_) => Refusal::Kind,
-        Cause::UnknownWord(_) => Refusal::Word,
+        Cause::UnknownWord(_) | Cause::UnknownName(_) => Refusal::Word,
         Cause::NoAlternative(_) => Refusal::Alternative,
         Cause::Fraction => Refusal::Fraction,
     }

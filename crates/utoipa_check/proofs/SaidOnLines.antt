@@ -4,7 +4,7 @@ use Rattle.std.specs.List.{flat_map, list_all}
 use Rattle.utoipa_base.specs.Kinds.{Kind, text, flag, whole, numeral, any, word_of, version, list_of, map_of, ordered_map_of, entries_of, ref_or, named, schema, schema_type, schema_format, array_items, additional_properties, security_scheme, api_key, flows, ObjectType, open_api_object, info_object, contact_object, license_object, server_object, server_variable_object, components_object, path_item_object, operation_object, external_docs_object, parameter_object, request_body_object, media_type_object, encoding_object, response_object, example_object, link_object, header_object, tag_object, reference_object, discriminator_object, xml_object, one_of_schema, all_of_schema, any_of_schema, array_schema, object_schema, api_key_scheme, http_scheme, open_id_connect_scheme, mutual_tls_scheme, oauth2_scheme, implicit_flow, password_flow, client_credentials_flow, authorization_code_flow, device_authorization_flow, scopes_object}
 use Rattle.utoipa_tables.specs.Titles.{type_title}
 use Rattle.utoipa_check.specs.Dropped as losses
-use Rattle.utoipa_check.specs.Misfits.{Cause, absent, expected, unknown_word, no_alternative, fraction, Misfit}
+use Rattle.utoipa_check.specs.Misfits.{Cause, absent, expected, unknown_word, no_alternative, unknown_name, fraction, Misfit}
 use Rattle.utoipa_check.specs.Pointers.{shown_pointer}
 use Rattle.utoipa_check.specs.References.{Reference}
 use Rattle.utoipa_check.specs.Referring.{State, dangling, resolved, external}
@@ -114,6 +114,7 @@ cause_line (absent name) = among (codes "the member `") (shown name) (codes "` i
 cause_line (expected k) = one_line_append (expectation k) (codes " is expected") (printed (expectation k) (expectation_printed k)) (printed (codes " is expected") refl)
 cause_line (unknown_word ws) = behind (codes "one of these words is expected: ") (words_text ws) refl (words_line ws)
 cause_line (no_alternative ks) = behind (codes "this is not ") (kinds_text ks) refl (kinds_line ks)
+cause_line (unknown_name ns) = behind (codes "this name is none of ") (words_text ns) refl (words_line ns)
 cause_line fraction = printed (codes "the number is not an integer of 64 bits") refl
 
 pub misfit_line : (m : Misfit) → IsOneLine (misfit_text m)
