@@ -16,7 +16,7 @@
 --   {"type":3}                              reads as nothing: a misfit, and no doubt
 use Rattle.std.specs.Prelude.{ℕ, List, [], ◌∷◌, ◌++◌, Bool, true, false, if◌then◌else◌, Option, None, Some, codes}
 use Rattle.serde_json.specs.Data.{Data, null, boolean, number, string, array, object, Items, no_items, item, Members, no_members, member}
-use Rattle.utoipa_base.specs.Kinds.{reference_object, Kind, list_of, map_of, ordered_map_of, entries_of, ref_or, named, schema, Row}
+use Rattle.utoipa_base.specs.Kinds.{ObjectType, reference_object, Kind, list_of, map_of, ordered_map_of, entries_of, ref_or, named, schema, Row}
 use Rattle.utoipa_base.specs.Reading.{is_null, is_named}
 use Rattle.utoipa_base.specs.Tables.{table}
 use Rattle.utoipa_check.specs.Misfits.{at_name, Misfits, under, Check, Checks, check_at, entry_checks, items_misfits, entries_misfits, table_misfits, object_misfits, fits_schema, meant_schema, checks}
