@@ -20,10 +20,10 @@ pub fn bytes_of(rt: &HostRuntime, name: &str) -> Result<Vec<u8>> {
 pub fn write(rt: &HostRuntime, output: Option<&str>, text: &str) -> Result<()> {
     match output {
         Some("-") | None => write_standard(rt, text).context("standard output"),
-        Some(name) => {
-            let shown = Shown(name);
-            write_file(rt, name, text).context(format_args!("{shown} is not written"))
-        }
+        Some(name) => write_file(rt, name, text).context(format_args!(
+            "{} is not written",
+            Shown(name)
+        )),
     }
 }
 

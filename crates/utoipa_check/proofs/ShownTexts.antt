@@ -62,18 +62,23 @@ hidden_is_small c h = by_control (or_cases _ _ h)
   where
     in_range : (lo hi : ℕ) → hi < 65536 → is_in_range lo hi c ≡ true → c < 65536
     in_range lo hi small e = let t = leb-true c hi (and_parts (nat_le lo c) (nat_le c hi) e).1 in omega arith
+
     last : (is_in_range 0x2028 0x202E c ≡ true) ⊎ (is_in_range 0x2066 0x2069 c ≡ true) → c < 65536
     last (inl e) = in_range 0x2028 0x202E (omega arith) e
     last (inr e) = in_range 0x2066 0x2069 (omega arith) e
+
     later : (is_in_range 0x200E 0x200F c ≡ true) ⊎ ((is_in_range 0x2028 0x202E c || is_in_range 0x2066 0x2069 c) ≡ true) → c < 65536
     later (inl e) = in_range 0x200E 0x200F (omega arith) e
     later (inr e) = last (or_cases _ _ e)
+
     one : (c == 0x61C ≡ true) ⊎ ((is_in_range 0x200E 0x200F c || (is_in_range 0x2028 0x202E c || is_in_range 0x2066 0x2069 c)) ≡ true) → c < 65536
     one (inl e) = let t = eqb-true c 0x61C e in omega arith
     one (inr e) = later (or_cases _ _ e)
+
     control : (is_in_range 0 0x1F c ≡ true) ⊎ (is_in_range 0x7F 0x9F c ≡ true) → c < 65536
     control (inl e) = in_range 0 0x1F (omega arith) e
     control (inr e) = in_range 0x7F 0x9F (omega arith) e
+
     by_control : (is_control c ≡ true) ⊎ ((c == 0x61C || (is_in_range 0x200E 0x200F c || (is_in_range 0x2028 0x202E c || is_in_range 0x2066 0x2069 c))) ≡ true) → c < 65536
     by_control (inl e) = control (or_cases _ _ e)
     by_control (inr e) = one (or_cases _ _ e)

@@ -1,5 +1,5 @@
 -- What is in doubt at the places inside a tree.
-use Rattle.std.specs.Prelude.{List, [], ◌∷◌, if◌then◌else◌}
+use Rattle.std.specs.Prelude.{List, [], ◌∷◌, Bool, true, false, if◌then◌else◌}
 use Rattle.serde_json.specs.Data.{Data}
 use Rattle.utoipa_check.specs.Doubts.{unknown_flow, doubters, doubts, row_doubts}
 use Rattle.utoipa_check.specs.Misfits.{Misfits, check_at, checker}

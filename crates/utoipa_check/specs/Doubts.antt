@@ -22,7 +22,7 @@
 use Rattle.std.specs.Prelude.{ℕ, List, [], ◌∷◌, ◌++◌, Bool, true, false, if◌then◌else◌, Option, None, Some, codes}
 use Rattle.serde_json.specs.Data.{Data, null, boolean, number, string, array, object, Items, no_items, item, Members, no_members, member}
 use Rattle.utoipa_base.specs.Choices.{chosen, scheme_types, api_key_places, flow_keys}
-use Rattle.utoipa_base.specs.Kinds.{reference_object, Kind, list_of, map_of, ordered_map_of, entries_of, ref_or, named, schema, security_scheme, api_key, flows, Row}
+use Rattle.utoipa_base.specs.Kinds.{ObjectType, reference_object, Kind, list_of, map_of, ordered_map_of, entries_of, ref_or, named, schema, security_scheme, api_key, flows, Row}
 use Rattle.utoipa_base.specs.Reading.{is_null, is_named}
 use Rattle.utoipa_base.specs.Tables.{table}
 use Rattle.utoipa_tables.specs.Tables.{words_of_choices, flow_choices}

@@ -1,5 +1,5 @@
 -- What the values of the program stand for.
-use Rattle.std.specs.Prelude.{List, [], ◌∷◌, map, reverse, if◌then◌else◌}
+use Rattle.std.specs.Prelude.{List, [], ◌∷◌, map, reverse, Bool, true, false, if◌then◌else◌}
 use Rattle.serde_json.specs.Data.{Data}
 use Rattle.utoipa_check.specs.Mentioned as places
 use Rattle.utoipa_check.specs.Places.{members_at}

@@ -79,5 +79,4 @@ pub fn shown_is_one_line()
     ensures misfit { (m : Misfit) → IsOneLine (misfit_text m) }
     ensures reference { (r : Reference) → IsOneLine (reference_text r) }
     ensures dropped { (d : Dropped) → IsOneLine (dropped_text d) }
-{
-}
+{}

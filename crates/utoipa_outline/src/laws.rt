@@ -1,5 +1,5 @@
 //! The law of the lines of operations.
-ghost use Rattle.std.specs.Prelude.{ℕ, List, length};
+ghost use Rattle.std.specs.Prelude.{List, length};
 ghost use Rattle.std.specs.List.{flat_map};
 ghost use Rattle.utoipa_outline.specs.Lines.{AreRows, operation_line};
 ghost use Rattle.utoipa_outline.specs.Operations.{Operation};
