@@ -19,3 +19,4 @@ pub mod OfDocuments
 pub mod NestedItems
 pub mod NestedPaths
 pub mod NestedRest
+pub mod Undoubted
