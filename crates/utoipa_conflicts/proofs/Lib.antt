@@ -20,3 +20,4 @@ pub mod NestedItems
 pub mod NestedPaths
 pub mod NestedRest
 pub mod TextLines
+pub mod Undoubted

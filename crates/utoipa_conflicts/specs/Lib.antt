@@ -11,3 +11,4 @@ pub mod Merged
 pub mod Texts
 pub mod Nested
 pub mod NestedInto
+pub mod Undoubted

@@ -18,6 +18,7 @@ ghost use Rattle.utoipa_conflicts.specs.NestedInto.{AreNestedInto, IsLostByNesti
 ghost use Rattle.utoipa_conflicts.specs.Same.{is_same};
 ghost use Rattle.utoipa_conflicts.specs.Texts.{conflict_text, told_text, told_lines};
 ghost use Rattle.utoipa_conflicts.specs.Trees.{Place, at_place};
+ghost use Rattle.utoipa_conflicts.specs.Undoubted.{AreReadAndMerged, AreReadAndNested};
 
 /// A value is listed exactly where it is dropped, and the list is empty exactly where each value is kept.
 pub fn conflicts_are_exact()
@@ -100,4 +101,30 @@ pub fn conflicts_are_lines()
     ensures conflict { (c : Conflict) → IsOneLine (conflict_text c) }
     ensures told { (c : Told) → IsOneLine (told_text c) }
     ensures lines { (cs : List Told) → AreLines (length cs) (told_lines cs) }
+{}
+
+/// Of documents that were read of trees in which nothing is in doubt, the conflicts are exactly what the document lacks that they are merged
+/// into, and there is none exactly where nothing is lost. What is in doubt is what `doubts` of the crate `utoipa_check` lists: so no document
+/// has to be known as unambiguous. What stands in a slot of the document that they are merged into is what is kept there.
+pub fn conflicts_of_undoubted_trees()
+    ensures kept { (trees : List Data) (documents : List Doc) (d : Doc) → AreReadAndMerged trees documents d
+        → (s : Slot) → is_slot s ≡ true → at_place (place s) (write d) ≡ kept s (written documents) }
+    ensures lost { (trees : List Data) (documents : List Doc) (d : Doc) → AreReadAndMerged trees documents d
+        → All IsNamedOnce (written documents)
+        → (p : Place) (j : ℕ) → ((i : ℕ) × IsOneOf (p, i, j) (conflicts (written documents))) ↔ IsLost documents d p j }
+    ensures nothing { (trees : List Data) (documents : List Doc) (d : Doc) → AreReadAndMerged trees documents d
+        → All IsNamedOnce (written documents) → (conflicts (written documents) ≡ []) ↔ IsAllThere documents d }
+{}
+
+/// Of two documents that were read of trees in which nothing is in doubt, what is told of nesting one into the other is what is lost by it.
+/// At each path of what comes of it stands the item that is put there, or else that of the document that is nested into.
+pub fn nested_conflicts_of_undoubted_trees()
+    ensures items { (answers : List (List ℕ)) (own_tree other_tree : Data) (own other d : Doc)
+        → AreReadAndNested answers own_tree other_tree own other d → (path : List ℕ) → is_extension path ≡ false
+        → at_place (place_of_item path) (write d)
+        ≡ option_or (put_at (answered answers (path_items (write other))) path) (at_place (place_of_item path) (write own)) }
+    ensures lost { (answers : List (List ℕ)) (own_tree other_tree : Data) (own other d : Doc)
+        → AreReadAndNested answers own_tree other_tree own other d → IsNamedOnce (write own) → IsNamedOnce (write other)
+        → (p : Place) (j : ℕ) → ((i : ℕ) × IsOneOf (p, i, j) (nested_conflicts answers (write own) (write other)))
+        ↔ IsLostByNesting answers own other d p j }
 {}

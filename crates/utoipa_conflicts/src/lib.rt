@@ -12,7 +12,8 @@
 //! what the document that decides has there (`conflict.rt`).
 //!
 //! Of unambiguous documents the conflicts are exactly the values that the document lacks that they are merged into, and where there is none,
-//! it lacks none ([`laws`], `specs/Merged.antt`). Nesting drops more, which [`tree_nested_conflicts`] lists (`nested.rt`). Both are there for
+//! it lacks none ([`laws`], `specs/Merged.antt`). Documents of whose trees `doubts` of utoipa_check lists nothing are unambiguous
+//! (`specs/Undoubted.antt`). Nesting drops more, which [`tree_nested_conflicts`] lists (`nested.rt`). Both are there for
 //! documents of any type too, as `OpenApi` of the crate `utoipa`, each place as a text ([`conflicts()`], [`nested_conflicts`], `told.rt`).
 #![tactic(auto)]
 
