@@ -2,3 +2,4 @@ pub mod Said
 pub mod Texts
 pub mod Fitting
 pub mod OnLines
+pub mod ComesBack

@@ -1,13 +1,39 @@
-//! The law of the lines that are told.
-ghost use Rattle.std.specs.Prelude.{ℕ, List, Option, length};
+//! The laws of what is found: of documents in which nothing is, of every kind, tree and type, and of the lines that are told.
+ghost use Rattle.std.specs.Prelude.{◌≡◌, ℕ, List, [], Option, Some, length};
 ghost use Rattle.std.specs.List.{flat_map};
 ghost use Rattle.serde_json.specs.Data.{Data};
+ghost use Rattle.serde_json.specs.View.{view};
+ghost use Rattle.utoipa_base.specs.Docs.{Doc};
+ghost use Rattle.utoipa_base.specs.Kinds.{Kind};
+ghost use Rattle.utoipa_base.specs.Reading.{read};
+ghost use Rattle.utoipa_base.specs.WellFormed.{ReadsAs};
+ghost use Rattle.utoipa_base.specs.Writing.{write};
 ghost use Rattle.utoipa_check.specs.Shown.{AreLines};
 ghost use Rattle.utoipa_conflicts.specs.Conflicts.{Conflict};
-ghost use Rattle.utoipa_findings.specs.Findings.{Finding};
+ghost use Rattle.utoipa_findings.specs.ComesBack.{ComesBack};
+ghost use Rattle.utoipa_findings.specs.Findings.{Finding, findings};
 ghost use Rattle.utoipa_findings.specs.Lines.{conflict_line};
 ghost use Rattle.utoipa_findings.specs.Sources.{IsTreelessLine};
 ghost use Rattle.utoipa_findings.specs.Told.{IsTold, lines_due};
+
+use serde_json::Value;
+use utoipa_base::Tree;
+
+/// A document in which `check` finds nothing comes back.
+///
+/// Of a tree in which nothing is found, of whatever kind, this holds: the tree has no fraction, and reads as a document, which is well-formed.
+/// Each value of the tree stands at its place in the tree that the document is written as. That one has no other place, but for a null under
+/// `description` where the tree has no such member, with which external docs are written. So it is the tree itself, but for such nulls and for
+/// the order of members; which order objects have, no clause says here.
+///
+/// A value that was read of the tree is that document. What the value is written as reads as the value again, in every member.
+pub fn nothing_found_comes_back<T: Tree>(tree: &Value, value: &T)
+    ensures document { (k : Kind) → findings k (view tree.now) ≡ [] → (d : Doc) × ComesBack k (view tree.now) d }
+    ensures value { findings T.kind (view tree.now) ≡ [] → read T.kind (view tree.now) ≡ Some (T.doc value.now)
+        → ComesBack T.kind (view tree.now) (T.doc value.now) }
+    ensures again { findings T.kind (view tree.now) ≡ [] → read T.kind (view tree.now) ≡ Some (T.doc value.now)
+        → ReadsAs T.kind (write (T.doc value.now)) (T.doc value.now) }
+{}
 
 /// What is told is lines, whatever a document, a text or a file's name has: one for each finding, or one that the file has no tree; and one for each
 /// value that merging drops. Each is ended by a line feed, and nothing else is hidden in it.

@@ -4,6 +4,9 @@
 //! written again lacks, and the references that lead to nothing ([`findings`], `specs/Findings.antt`). [`document_of`] reads a file, and
 //! tells with a refusal every place that does not fit; [`tree_of_document`] answers the tree of one that fits. [`conflict_lines`] tells what merging the documents of files drops.
 //!
+//! A document in which nothing is found comes back ([`laws`]): it is written as its tree, but for a null that external docs have, and reads
+//! from there as itself.
+//!
 //! The lines are defined letter by letter (`specs/Lines.antt`), but for the line and the column at which a text that is no JSON is broken.
 #![tactic(auto)]
 

@@ -1,0 +1,93 @@
+-- A document in which nothing is found comes back.
+use Rattle.std.proofs.Common.{◌≡◌, List, [], ◌∷◌, ◌++◌, map, Bool, true, false, not, cond, ◌&&◌, Option, Some, None, option_map, is_some, refl, sym, ap, ◌∙◌, true≢false}
+use Rattle.std.specs.List.{flat_map}
+use Rattle.serde_json.specs.Data.{Data}
+use Rattle.serde_json.specs.Written.{has_float}
+use Rattle.utoipa_base.specs.Docs.{Doc}
+use Rattle.utoipa_base.specs.Kinds.{Kind}
+use Rattle.utoipa_base.specs.Reading.{read}
+use Rattle.utoipa_base.specs.Shape.{IsOf, value_of}
+use Rattle.utoipa_base.specs.WellFormed.{ReadsAs}
+use Rattle.utoipa_base.specs.Writing.{write}
+use Rattle.utoipa_base.proofs.Plain.{write_plain}
+use Rattle.utoipa_base.proofs.ReadsBack.{reads_back}
+use Rattle.utoipa_base.proofs.WhatIsRead.{read_normal}
+use Rattle.utoipa_check.specs.Doubts.{doubts}
+use Rattle.utoipa_check.specs.Dropped.{dropped, dropped_by}
+use Rattle.utoipa_check.specs.Misfits.{is_fit, without_fractions, misfits_and_fractions}
+use Rattle.utoipa_check.specs.References.{references}
+use Rattle.utoipa_check.proofs.DoubtsSound.{doubts_kept}
+use Rattle.utoipa_check.proofs.DroppedHas.{nothing_dropped}
+use Rattle.utoipa_check.proofs.Sound.{misfits_and_fractions_exact}
+use Rattle.utoipa_check.proofs.Undoubted.{undoubted_well_formed}
+use Rattle.utoipa_check.proofs.Within.{written_within}
+use Rattle.utoipa_findings.specs.ComesBack.{ComesBack}
+use Rattle.utoipa_findings.specs.Findings.{unfit_at, doubtful_at, lost_at, dangles_at, or_none, dropped_where_read, refusals, meant_otherwise, findings}
+
+-- ---- lists that are empty
+
+first_none : {A : Type 0} (xs ys : List A) → xs ++ ys ≡ [] → xs ≡ []
+first_none [] ys e = refl
+first_none (x ∷ xs) ys e = cc
+
+second_none : {A : Type 0} (xs ys : List A) → xs ++ ys ≡ [] → ys ≡ []
+second_none [] ys e = e
+second_none (x ∷ xs) ys e = cc
+
+map_none : {A B : Type 0} (f : A → B) (xs : List A) → map f xs ≡ [] → xs ≡ []
+map_none f [] e = refl
+map_none f (x ∷ xs) e = cc
+
+-- ---- nothing is found
+
+none_refused : (k : Kind) (t : Data) → findings k t ≡ [] → misfits_and_fractions k t ≡ []
+none_refused k t e =
+    let rest = first_none (refusals k t ++ meant_otherwise k t) (map lost_at (dropped_where_read k t)) (first_none ((refusals k t ++ meant_otherwise k t) ++ map lost_at (dropped_where_read k t)) (flat_map dangles_at (references k t)) e) in
+    map_none unfit_at (misfits_and_fractions k t) (first_none (refusals k t) (meant_otherwise k t) rest)
+
+none_doubted : (k : Kind) (t : Data) → findings k t ≡ [] → without_fractions (doubts k t) ≡ []
+none_doubted k t e =
+    let rest = first_none (refusals k t ++ meant_otherwise k t) (map lost_at (dropped_where_read k t)) (first_none ((refusals k t ++ meant_otherwise k t) ++ map lost_at (dropped_where_read k t)) (flat_map dangles_at (references k t)) e) in
+    map_none doubtful_at (without_fractions (doubts k t)) (second_none (refusals k t) (meant_otherwise k t) rest)
+
+none_lost : (k : Kind) (t : Data) → findings k t ≡ [] → dropped_where_read k t ≡ []
+none_lost k t e =
+    map_none lost_at (dropped_where_read k t)
+    (second_none (refusals k t ++ meant_otherwise k t) (map lost_at (dropped_where_read k t)) (first_none ((refusals k t ++ meant_otherwise k t) ++ map lost_at (dropped_where_read k t)) (flat_map dangles_at (references k t)) e))
+
+-- ---- the document
+
+both_hold : (a b : Bool) → a && not b ≡ true → (a ≡ true) × (b ≡ false)
+both_hold true true e = absurd (true≢false (sym e))
+both_hold true false e = (refl, refl)
+both_hold false b e = absurd (true≢false (sym e))
+
+fits : (k : Kind) (t : Data) → findings k t ≡ [] → (is_some (read k t) ≡ true) × (has_float t ≡ false)
+fits k t e = both_hold (is_some (read k t)) (has_float t) (sym (misfits_and_fractions_exact k t) ∙ ap is_fit (none_refused k t e))
+
+some_there : {A : Type 0} (o : Option A) → is_some o ≡ true → (x : A) × (o ≡ Some x)
+some_there None e = absurd (true≢false (sym e))
+some_there (Some x) e = (x, refl)
+
+dropped_is : (k : Kind) (t : Data) (d : Doc) → ReadsAs k t d → dropped_where_read k t ≡ dropped t (write d)
+dropped_is k t d is =
+    ap (λ b. cond b [] (or_none (dropped_by k t))) is.0 ∙ ap (λ o. or_none (option_map (λ x. dropped t (write x)) o)) is.1
+
+pub comes_back : (k : Kind) (t : Data) (d : Doc) → findings k t ≡ [] → read k t ≡ Some d → ComesBack k t d
+comes_back k t d none is =
+    let plain = (fits k t none).1 in
+    let reads : ReadsAs k t d = (plain, is) in
+    record {
+      reads = reads;
+      well_formed = undoubted_well_formed k t d (sym (doubts_kept k t plain) ∙ none_doubted k t none) reads;
+      kept = (nothing_dropped t (write d)).0 (sym (dropped_is k t d reads) ∙ none_lost k t none);
+      nothing_besides = written_within k t d is;
+    }
+
+-- a tree in which nothing is found is a document
+pub some_comes_back : (k : Kind) (t : Data) → findings k t ≡ [] → (d : Doc) × ComesBack k t d
+some_comes_back k t none = let there = some_there (read k t) (fits k t none).0 in (there.0, comes_back k t there.0 none there.1)
+
+-- and reads back from the written tree, where it is of the kind
+pub reads_again : (k : Kind) (t : Data) (d : Doc) → IsOf d (value_of k) → ComesBack k t d → ReadsAs k (write d) d
+reads_again k t d of_kind h = (write_plain d h.well_formed.0, reads_back d k of_kind h.well_formed.1 ∙ ap Some (read_normal k t d h.reads.1))

@@ -1,0 +1,16 @@
+use Rattle.serde_json.specs.View.{view}
+use Rattle.utoipa_findings.proofs.ComesBack.{comes_back, some_comes_back, reads_again}
+use Rattle.utoipa_findings.proofs.laws.nothing_found_comes_back.Goals as goal
+
+pub returns-clause-document : goal.returns-clause-document
+returns-clause-document g c k = some_comes_back k (view c.args.tree.now)
+
+pub returns-clause-value : goal.returns-clause-value
+returns-clause-value g c = comes_back g.T.Documented.kind (view c.args.tree.now) (g.T.Documented.doc c.args.value.now)
+
+pub returns-clause-again : goal.returns-clause-again
+returns-clause-again g c none is =
+    let k = g.T.Documented.kind in
+    let t = view c.args.tree.now in
+    let d = g.T.Documented.doc c.args.value.now in
+    reads_again k t d (g.met.T.Tree.is_of_kind c.args.value.now) (comes_back k t d none is)
