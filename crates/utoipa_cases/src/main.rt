@@ -63,10 +63,13 @@ fn answer_to_call(alloc: Global, call: &Call<'_>) -> Result<String, AllocError> 
 // The map and the name of the component that a reference to the location leads to.
 fn component_of(alloc: Global, location: &str) -> Result<String, AllocError> {
     let reference = Ref::new(alloc, String::from_str(alloc, location)?);
-    match reference.component(alloc)? {
-        Some(key) => format!(in alloc; "{} {}", key.map.as_text(), key.name.as_str()),
-        None => String::from_str(alloc, "none"),
-    }
+    let Some(key) = reference.component(alloc)? else {
+        return String::from_str(alloc, "none");
+    };
+    let mut answer = String::from_str(alloc, key.map.as_text())?;
+    answer.push_str(" ")?;
+    answer.push_str(key.name.as_str())?;
+    Ok(answer)
 }
 
 fn answer_to_question(alloc: Global, call: &Call<'_>) -> Result<String, AllocError> {
