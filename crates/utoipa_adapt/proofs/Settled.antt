@@ -41,7 +41,6 @@ filled_same (Some m) ms h = same_if (has (member_name m) (object ms)) _ ms _ h
 
 mutual
   pub adapted_same : (d : Data) (k : Kind) → told d k ≡ [] → adapter d k ≡ d
-  unfolding told, adapter
   adapted_same null k h = refl
   adapted_same (boolean b) k h = refl
   adapted_same (number n) k h = refl
@@ -53,7 +52,6 @@ mutual
       ap (λ r. object (filled (default_of own) r)) inner ∙ ap object (filled_same (default_of own) ms (second_empty (members_told ms own) _ h))
 
   items_same : (i : ℕ) (ds : Items) (k : Kind) → items_told i ds k ≡ [] → adapted_items ds k ≡ ds
-  unfolding items_told, adapted_items
   items_same i no_items k h = refl
   items_same i (item d ds) k h =
       let first = adapted_same d k (under_empty (at_index i) (told d k) (first_empty (under (at_index i) (told d k)) _ h)) in
@@ -61,7 +59,6 @@ mutual
       ap (λ r. item r (adapted_items ds k)) first ∙ ap (item d) rest
 
   members_same : (ms : Members) (k : Kind) → members_told ms k ≡ [] → adapted_members ms k ≡ ms
-  unfolding members_told, adapted_members
   members_same no_members k h = refl
   members_same (member name d ms) k h =
       let at = under (at_name name) (told d (member_kind k name)) in
@@ -73,7 +70,6 @@ mutual
 
 mutual
   pub told_any : (d : Data) → told d any ≡ []
-  unfolding told
   told_any null = refl
   told_any (boolean b) = refl
   told_any (number n) = refl
@@ -82,12 +78,10 @@ mutual
   told_any (object ms) = both_empty _ _ (members_any ms) refl
 
   items_any : (i : ℕ) (ds : Items) → items_told i ds any ≡ []
-  unfolding items_told
   items_any i no_items = refl
   items_any i (item d ds) = both_empty _ _ (ap (under (at_index i)) (told_any d)) (items_any (suc i) ds)
 
   members_any : (ms : Members) → members_told ms any ≡ []
-  unfolding members_told
   members_any no_members = refl
   members_any (member name d ms) = both_empty _ _ (ap (under (at_name name)) (told_any d)) (members_any ms)
 
@@ -102,7 +96,6 @@ named_at Equal a b d e h = refl
 named_at Greater a b d e h = h
 
 names_kept : (name : List ℕ) (ms : Members) (k : Kind) → has name (object (adapted_members ms k)) ≡ has name (object ms)
-unfolding adapted_members
 names_kept name no_members k = refl
 names_kept name (member l d ms) k = named_at (slice_cmp nat_cmp name l) _ _ _ _ (names_kept name ms k)
 
@@ -124,13 +117,11 @@ same_name name l is = (bytes_eq-Decides name l).0 (sym (is_eq-slice_cmp name l) 
 
 put_told_at : (o : Ordering) (name l : List ℕ) (v d : Data) (ms : Members) (k : Kind) → slice_cmp nat_cmp name l ≡ o → told v (member_kind k name) ≡ [] → under (at_name l) (told d (member_kind k l)) ≡ []
     → members_told ms k ≡ [] → members_told (put name v ms) k ≡ [] → members_told (match_ordering o (member name v (member l d ms)) (member l v ms) (member l d (put name v ms))) k ≡ []
-unfolding members_told
 put_told_at Less name l v d ms k is new at rest later = both_empty _ _ (ap (under (at_name name)) new) (both_empty _ _ at rest)
 put_told_at Equal name l v d ms k is new at rest later = both_empty _ _ (ap (under (at_name l)) (ap (λ n. told v (member_kind k n)) (sym (same_name name l is)) ∙ new)) rest
 put_told_at Greater name l v d ms k is new at rest later = both_empty _ _ at later
 
 put_told : (name : List ℕ) (v : Data) (ms : Members) (k : Kind) → told v (member_kind k name) ≡ [] → members_told ms k ≡ [] → members_told (put name v ms) k ≡ []
-unfolding members_told
 put_told name v no_members k new h = both_empty _ _ (ap (under (at_name name)) new) refl
 put_told name v (member l d ms) k new h =
     let at = under (at_name l) (told d (member_kind k l)) in
@@ -203,15 +194,12 @@ by_default P a b c rest api_key = rest api_key refl
 by_default P a b c rest flows = rest flows refl
 
 with_paths : (ms : Members) → members_told ms (named open_api_object) ≡ [] → members_told (filled (Some paths_member) ms) (named open_api_object) ≡ []
-unfolding told, members_told
 with_paths ms h = if_told (has (codes "paths") (object ms)) ms _ (named open_api_object) h (put_told (codes "paths") (object no_members) ms (named open_api_object) refl h)
 
 with_responses : (ms : Members) → members_told ms (named operation_object) ≡ [] → members_told (filled (Some responses_member) ms) (named operation_object) ≡ []
-unfolding told, members_told
 with_responses ms h = if_told (has (codes "responses") (object ms)) ms _ (named operation_object) h (put_told (codes "responses") (object no_members) ms (named operation_object) refl h)
 
 with_required : (ms : Members) → members_told ms (named parameter_object) ≡ [] → members_told (filled (Some required_member) ms) (named parameter_object) ≡ []
-unfolding told
 with_required ms h = if_told (has (codes "required") (object ms)) ms _ (named parameter_object) h (put_told (codes "required") (boolean false) ms (named parameter_object) refl h)
 
 filled_told : (k : Kind) (ms : Members) → members_told ms k ≡ [] → members_told (filled (default_of k) ms) k ≡ []
@@ -238,7 +226,6 @@ ref_kept (Some m) ms = has_either (has (member_name m) (object ms)) (codes "$ref
 
 mutual
   pub adapted_settled : (d : Data) (k : Kind) → told (adapter d k) k ≡ []
-  unfolding told, adapter
   adapted_settled null k = refl
   adapted_settled (boolean b) k = refl
   adapted_settled (number n) k = refl
@@ -253,12 +240,10 @@ mutual
       ∙ both_empty (members_told all own) (lacking (default_of own) (object all)) (filled_told own inner (members_settled ms own)) (filled_lacks (default_of own) inner)
 
   items_settled : (i : ℕ) (ds : Items) (k : Kind) → items_told i (adapted_items ds k) k ≡ []
-  unfolding items_told, adapted_items
   items_settled i no_items k = refl
   items_settled i (item d ds) k = both_empty _ _ (ap (under (at_index i)) (adapted_settled d k)) (items_settled (suc i) ds k)
 
   members_settled : (ms : Members) (k : Kind) → members_told (adapted_members ms k) k ≡ []
-  unfolding members_told, adapted_members
   members_settled no_members k = refl
   members_settled (member name d ms) k = both_empty _ _ (ap (under (at_name name)) (adapted_settled d (member_kind k name))) (members_settled ms k)
 

@@ -46,7 +46,6 @@ put_here xs ys p pushed here = ap all_told pushed ∙ map-append told_of xs (p �
 
 pub item_step : (k : Kind) (xs : List Value) (i : ℕ) (v : Value) (found new inner : List AdaptedPlace) (all : List Told) → drop i xs ≡ v ∷ drop (i + 1) xs → all_told found ++ items_told i (items_view (drop i xs)) k ≡ all
     → all_told inner ≡ told (view v) k → all_told new ≡ all_told found ++ under (places.at_index i) (all_told inner) → all_told new ++ items_told (i + 1) (items_view (drop (i + 1) xs)) k ≡ all
-unfolding items_told
 item_step k xs i v found new inner all here so_far inside put =
     let rest = items_told (i + 1) (items_view (drop (i + 1) xs)) k in
     let next : suc i ≡ i + 1 = omega arith in
@@ -55,19 +54,16 @@ item_step k xs i v found new inner all here so_far inside put =
     ∙ ap (λ ys. all_told found ++ items_told i (items_view ys) k) (sym here) ∙ so_far
 
 pub items_end : (k : Kind) (xs : List Value) (i : ℕ) (found : List AdaptedPlace) (all : List Told) → drop i xs ≡ [] → all_told found ++ items_told i (items_view (drop i xs)) k ≡ all → all_told found ≡ all
-unfolding items_told
 items_end k xs i found all none so_far = sym (append-nil (all_told found)) ∙ ap (λ ys. all_told found ++ items_told i (items_view ys) k) (sym none) ∙ so_far
 
 pub member_step : (k : Kind) (es left : List Entry) (e : Entry) (found new inner : List AdaptedPlace) (all : List Told) → es ≡ e ∷ left → all_told found ++ members_told (members_view es) k ≡ all
     → all_told inner ≡ told (view e.1) (member_kind k (string_bytes e.0)) → all_told new ≡ all_told found ++ under (places.at_name (string_bytes e.0)) (all_told inner) → all_told new ++ members_told (members_view left) k ≡ all
-unfolding members_told
 member_step k es left e found new inner all here so_far inside put =
     let rest = members_told (members_view left) k in
     let at = under (places.at_name (string_bytes e.0)) in
     ap (λ r. r ++ rest) put ∙ append_assoc (all_told found) (at (all_told inner)) rest ∙ ap (λ r. all_told found ++ (at r ++ rest)) inside ∙ ap (λ r. all_told found ++ members_told (members_view r) k) (sym here) ∙ so_far
 
 pub members_end : (k : Kind) (es : List Entry) (found : List AdaptedPlace) (all : List Told) → es ≡ [] → all_told found ++ members_told (members_view es) k ≡ all → all_told found ≡ all
-unfolding members_told
 members_end k es found all none so_far = sym (append-nil (all_told found)) ∙ ap (λ r. all_told found ++ members_told (members_view r) k) (sym none) ∙ so_far
 
 -- ---- turns of the loops that adapt
@@ -77,7 +73,6 @@ abbrev pub each_adapted : Kind → List Value → List Data
 each_adapted k vs = map (λ v. adapter (view v) k) vs
 
 pub items_adapted : (k : Kind) (vs : List Value) → adapted_items (items_view vs) k ≡ items_of (each_adapted k vs)
-unfolding adapted_items
 items_adapted k [] = refl
 items_adapted k (v ∷ vs) = ap (item (adapter (view v) k)) (items_adapted k vs)
 
@@ -88,13 +83,11 @@ one_adapted k done new passed v w before pushed is =
 adapted_put_at : (o : Ordering) (k : Kind) (name l : List ℕ) (v d : Data) (ms : Members) → slice_cmp nat_cmp name l ≡ o → put name (adapter v (member_kind k name)) (adapted_members ms k) ≡ adapted_members (put name v ms) k
     → match_ordering o (member name (adapter v (member_kind k name)) (member l (adapter d (member_kind k l)) (adapted_members ms k))) (member l (adapter v (member_kind k name)) (adapted_members ms k))
     (member l (adapter d (member_kind k l)) (put name (adapter v (member_kind k name)) (adapted_members ms k))) ≡ adapted_members (match_ordering o (member name v (member l d ms)) (member l v ms) (member l d (put name v ms))) k
-unfolding adapted_members
 adapted_put_at Less k name l v d ms is later = refl
 adapted_put_at Equal k name l v d ms is later = ap (λ n. member l (adapter v (member_kind k n)) (adapted_members ms k)) (same_name name l is)
 adapted_put_at Greater k name l v d ms is later = ap (member l (adapter d (member_kind k l))) later
 
 adapted_put : (k : Kind) (name : List ℕ) (v : Data) (ms : Members) → put name (adapter v (member_kind k name)) (adapted_members ms k) ≡ adapted_members (put name v ms) k
-unfolding adapted_members
 adapted_put k name v no_members = refl
 adapted_put k name v (member l d ms) = adapted_put_at _ k name l v d ms refl (adapted_put k name v ms)
 
@@ -107,7 +100,6 @@ member_adapted k done e more made new w sorted before is inserted =
     ∙ adapted_put k name (view e.1) (members_view done) ∙ ap (λ ms. adapted_members ms k) (put_last done e more sorted)
 
 pub no_member_adapted : (k : Kind) → no_members ≡ adapted_members no_members k
-unfolding adapted_members
 no_member_adapted k = refl
 
 -- ---- whether a name is there

@@ -80,7 +80,7 @@ abbrev pub filled : Option DefaultMember → Members → Members
 filled None ms = ms
 filled (Some m) ms = if has (member_name m) (object ms) then ms else put (member_name m) (member_default m) ms
 
-unfoldable mutual
+abbrev mutual
   pub adapter : Data → Kind → Data
   adapter null k = null
   adapter (boolean b) k = boolean b
@@ -122,7 +122,7 @@ abbrev pub lacking : Option DefaultMember → Data → List Told
 lacking None d = []
 lacking (Some m) d = if has (member_name m) d then [] else ([], filled_with m) ∷ []
 
-unfoldable mutual
+abbrev mutual
   pub told : Data → Kind → List Told
   told null k = []
   told (boolean b) k = []

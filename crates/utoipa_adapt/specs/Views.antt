@@ -24,4 +24,4 @@ abbrev pub told_of : AdaptedPlace → specs.Told
 told_of a = (outwards a.pointer.steps.items [], adaptation_of a.adaptation)
 
 abbrev pub all_told : List AdaptedPlace → List specs.Told
-all_told as = map told_of as
+all_told ps = map told_of ps
