@@ -1,11 +1,19 @@
-use Rattle.std.proofs.Common.{◌≡◌, ◌∙◌, ◌∷◌, ◌++◌, ◌+◌, [], refl, sym, ap, subst, arith, rules, drop}
+use Rattle.std.proofs.Common.{◌≡◌, ◌∙◌, ◌∷◌, ◌++◌, ◌+◌, [], refl, sym, ap, subst, arith, rules, drop, true≢false}
 use Rattle.std.proofs.lemmas.List.{drop_more, drop_all}
 use Rattle.utoipa_check.specs.Misfits.{at_index}
 use Rattle.utoipa_tables.specs.Tables.{kind_of}
-use Rattle.utoipa_adapt.specs.Rules.{under}
+use Rattle.serde_json.specs.View.{view, members_view}
+use Rattle.utoipa_adapt.specs.Rules.{under, told, members_told}
 use Rattle.utoipa_adapt.specs.Views.{all_told}
+use Rattle.utoipa_adapt.proofs.Settled.{told_any}
 use Rattle.utoipa_adapt.proofs.Turns.{item_step, items_end, member_step, members_end}
 use Rattle.utoipa_adapt.proofs.telling.+told.Goals as goal
+use Rattle.utoipa_adapt.proofs.telling.+told.Goals.{told_of_tree-in-Any, told_of_tree-in_default}
+
+pub told_of_tree-returns-then-matches : goal.told_of_tree-returns-then-matches
+told_of_tree-returns-then-matches t c =
+    let tree = view c.args.tree.now in
+    elim c.match-matches.branch [ told_of_tree-in-Any w ↦ ap all_told c.new.ensures.items ∙ sym (ap (λ k. told tree (kind_of k)) w.in-Any.is ∙ told_any tree) | told_of_tree-in_default w ↦ absurd (true≢false (sym c.if-matches.true ∙ w.matches-is)) ]
 
 pub told_of_items-loop-item-preserved : goal.told_of_items-loop-item-preserved
 told_of_items-loop-item-preserved t c =
@@ -32,4 +40,5 @@ told_of_members-loop-name-preserved t c =
 pub told_of_members-returns : goal.told_of_members-returns
 told_of_members-returns t c =
     let l = c.loop-name in
-    members_end (kind_of c.args.kind) l.name-iterator l.told.items _ (c.in-None.ensures.steps.0) l.invariant
+    let begun : c.into_iter-name-iterator.result ≡ c.args.members.now.entries = search rules in
+    members_end (kind_of c.args.kind) l.name-iterator l.told.items _ (c.in-None.ensures.steps.0) l.invariant ∙ ap (λ es. members_told (members_view es) (kind_of c.args.kind)) begun
