@@ -6,7 +6,7 @@ use Rattle.std.specs.Cmp.Lexicographic.{slice_cmp}
 use Rattle.std.specs.List.Sorted.{IsStrictlySortedBy}
 use Rattle.std.specs.Map.{keys_of, lookup}
 use Rattle.std.specs.Ordering.{match_ordering}
-use Rattle.serde_json.specs.Data.{Data, Items, item, Members, no_members, member, put}
+use Rattle.serde_json.specs.Data.{Data, item, Members, no_members, member, put}
 use Rattle.serde_json.specs.Find.{get_member}
 use Rattle.serde_json.specs.View.{view, items_of, items_view, members_view}
 use Rattle.serde_json.specs.declared.value.Value.{Value}
@@ -16,7 +16,6 @@ use Rattle.utoipa_check.proofs.Steps.{outwards_last}
 use Rattle.utoipa_check.specs.Misfits as places
 use Rattle.utoipa_check.specs.Views.{step_of, outwards}
 use Rattle.utoipa_check.specs.declared.misfit.Step.{Step}
-use Rattle.utoipa_adapt.specs.Rules as specs
 use Rattle.utoipa_adapt.specs.Rules.{Told, member_kind, adapter, adapted_items, adapted_members, under, told, items_told, members_told}
 use Rattle.utoipa_adapt.specs.Views.{adaptation_of, told_of, all_told}
 use Rattle.utoipa_adapt.specs.declared.telling.AdaptedPlace.{AdaptedPlace}

@@ -1,5 +1,5 @@
 -- What the values of the program stand for.
-use Rattle.std.specs.Prelude.{List, [], ◌∷◌, map, Option, None, Some}
+use Rattle.std.specs.Prelude.{List, [], map, Option, None, Some}
 use Rattle.utoipa_adapt.specs.Rules as specs
 use Rattle.utoipa_adapt.specs.declared.rules.DefaultMember.{DefaultMember}
 use Rattle.utoipa_adapt.specs.declared.rules.DefaultMember.TheVariants as members

@@ -1,4 +1,4 @@
-use Rattle.std.proofs.Common.{◌≡◌, ◌∙◌, ◌∷◌, ◌++◌, [], refl, sym, ap, subst, append_assoc, map, rules, string_cmp, true≢false}
+use Rattle.std.proofs.Common.{◌≡◌, ◌∙◌, ◌∷◌, ◌++◌, [], sym, ap, subst, append_assoc, rules, string_cmp, true≢false}
 use Rattle.std.proofs.lemmas.List.{append-nil}
 use Rattle.std.specs.List.Sorted.{IsStrictlySortedBy}
 use Rattle.std.specs.Map.{keys_of}
@@ -6,9 +6,9 @@ use Rattle.serde_json.specs.View.{view, items_of, members_view}
 use Rattle.serde_json.proofs.Views.{Entry}
 use Rattle.utoipa_check.proofs.Steps.{none_left}
 use Rattle.utoipa_tables.specs.Tables.{kind_of}
-use Rattle.utoipa_adapt.specs.Rules.{adapter, adapted_items, adapted_members}
+use Rattle.utoipa_adapt.specs.Rules.{adapter, adapted_members}
 use Rattle.utoipa_adapt.proofs.Settled.{adapted_any}
-use Rattle.utoipa_adapt.proofs.Turns.{each_adapted, items_adapted, one_adapted, member_adapted, no_member_adapted}
+use Rattle.utoipa_adapt.proofs.Turns.{each_adapted, items_adapted, one_adapted, member_adapted}
 use Rattle.utoipa_adapt.proofs.adapting.+adapt.Goals as goal
 use Rattle.utoipa_adapt.proofs.adapting.+adapt.Goals.{adapt_tree-in-Any, adapt_tree-in_default}
 

@@ -1,4 +1,4 @@
-use Rattle.std.proofs.Common.{◌≡◌, ◌∙◌, ◌∷◌, ◌++◌, ◌+◌, [], refl, sym, ap, subst, arith, rules, drop, true≢false}
+use Rattle.std.proofs.Common.{◌≡◌, ◌∙◌, ◌∷◌, ◌++◌, ◌+◌, sym, ap, subst, arith, rules, drop, true≢false}
 use Rattle.std.proofs.lemmas.List.{drop_more, drop_all}
 use Rattle.utoipa_check.specs.Misfits.{at_index}
 use Rattle.utoipa_tables.specs.Tables.{kind_of}
