@@ -98,9 +98,6 @@ member_adapted k done e more made new w sorted before is inserted =
     ap members_view inserted ∙ members_view-insert_entry made e.0 w ∙ ap (put name (view w)) before ∙ ap (λ d. put name d (adapted_members (members_view done) k)) is
     ∙ adapted_put k name (view e.1) (members_view done) ∙ ap (λ ms. adapted_members ms k) (put_last done e more sorted)
 
-pub no_member_adapted : (k : Kind) → no_members ≡ adapted_members no_members k
-no_member_adapted k = refl
-
 -- ---- whether a name is there
 
 some_view : (o : Option Value) → is_some (option_map view o) ≡ is_some o

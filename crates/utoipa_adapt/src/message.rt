@@ -26,7 +26,10 @@ impl fmt::Display for Adaptation {
             Adaptation::FilledWith(member) => {
                 let name = member.name();
                 let default = default_text(*member);
-                write!(f, "the member `{name}` is absent, and is read as `{default}`")
+                write!(
+                    f,
+                    "the member `{name}` is absent, and is read as `{default}`"
+                )
             }
         }
     }

@@ -1,13 +1,13 @@
 //! The rules: the members that the standard lets be absent, and as what each tree in a tree is looked at.
-ghost use Rattle.std.specs.Prelude.{◌≡◌, IfOk};
-ghost use Rattle.serde_json.specs.View.{view, members_view};
+ghost use Rattle.std.specs.Prelude.{◌≡◌};
+ghost use Rattle.serde_json.specs.View.{view};
 ghost use Rattle.utoipa_adapt.specs.Rules as specs;
 ghost use Rattle.utoipa_adapt.specs.Views.{member_of, some_member};
 ghost use Rattle.utoipa_tables.specs.Tables.{kind_of, members_of, type_of};
 ghost use Rattle.utoipa_base.specs.Kinds as kinds;
 
 use serde_json::{Map, Value};
-use std::alloc::{AllocError, Global};
+use std::alloc::Global;
 use utoipa_base::is_extension_name;
 use utoipa_tables::{Kind, ObjectType, Row, rows};
 
