@@ -8,6 +8,8 @@
 //! | `places TYPE` | a JSON text | the places alone |
 //! | `doubts TYPE` | a JSON text | the places that do not fit what was meant there, where something else is read |
 //! | `references TYPE` | a JSON text | the places where a document of the type refers, each with its text and what has become of it |
+//! | `adaptations TYPE` | a JSON text | what is adapted in its tree, each with its place; `none` where nothing is |
+//! | `adapted TYPE` | a JSON text | the adapted tree |
 //! | `located TYPE` | a JSON text | `read` where the text is a document of the type, else the fault with its place |
 //! | `conflicts` | a JSON list of the trees of documents | what is dropped where they are merged |
 //! | `nested_conflicts` | a JSON list: the tree of a document, that of one that is nested into it, and a list of the answers to the nested paths | what is dropped |
@@ -29,6 +31,7 @@ use crate::told::told;
 use serde_json::Value;
 use std::alloc::{AllocError, Global};
 use std::io;
+use utoipa_adapt::{adapt, adaptations};
 use utoipa_case_kit::Call;
 use utoipa_check::references::references;
 use utoipa_check::{Pointer, Report, doubts, misfits};
@@ -64,7 +67,12 @@ fn answer_of_kind(alloc: Global, call: &Call<'_>) -> Result<String, AllocError> 
         return String::from_str(alloc, "no such type");
     };
     match Value::from_str(alloc, call.given) {
-        Ok(tree) => answer_of_tree(alloc, call.name, kind, &tree),
+        Ok(tree) => {
+            if call.name == "adapted" {
+                return adapt(alloc, kind, tree)?.to_string(alloc);
+            }
+            answer_of_tree(alloc, call.name, kind, &tree)
+        }
         Err(_) => String::from_str(alloc, "no JSON"),
     }
 }
@@ -76,6 +84,7 @@ fn answer_of_tree(
     tree: &Value,
 ) -> Result<String, AllocError> {
     match call {
+        "adaptations" => told(alloc, &adaptations(alloc, kind, tree)?),
         "doubts" => told(alloc, &doubts(alloc, kind, tree)?),
         "references" => told(alloc, &references(alloc, kind, tree)?),
         "misfits" => told(alloc, &misfits(alloc, kind, tree)?.misfits),
