@@ -12,3 +12,4 @@ pub mod NothingAdded
 pub mod TheTheorem
 pub mod FirstOperation
 pub mod OwnSchemas
+pub mod UnambiguousFields

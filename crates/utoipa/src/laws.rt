@@ -19,8 +19,8 @@ use crate::merging::MergeFault;
 use serde_json::Value;
 use std::alloc::{AllocError, Global};
 pub use utoipa_base::laws::{
-    component_stands_there, members_have_fewer_values, normal_form_twice, one_normal_form,
-    reads_back, stays_plain, what_is_read,
+    comes_back, component_stands_there, members_have_fewer_values, normal_form_twice,
+    one_normal_form, reads_back, stays_plain, unambiguous_exactly, what_is_read,
 };
 use utoipa_base::{Counted, Documented, ReadFault, Tree};
 pub use utoipa_merging::laws::{

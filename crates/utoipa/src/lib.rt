@@ -16,12 +16,14 @@ mod own_schemas;
 mod tags;
 mod text;
 mod traits;
+mod unambiguous;
 
 pub use json_text::{from_json, from_slice, to_json, to_pretty_json};
 pub use tags::{openapi_of, operation_of};
 pub use traits::{Modify, OpenApi};
 pub use utoipa_base::{
-    Counted, Number, Place, ReadFault, Readings, Tree, Unread, Word, has_fraction, same_tree,
+    Counted, NeverText, NoReference, Number, Place, ReadFault, Readings, Tree, Unambiguous, Unread,
+    Word, has_fraction, same_tree,
 };
 pub use utoipa_compose::{ComposeFault, PartialSchema, ToSchema, TupleUnit, schema_of};
 pub use utoipa_operation_parts::{IntoParams, IntoResponses, ToResponse};

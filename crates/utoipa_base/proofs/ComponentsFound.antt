@@ -1,5 +1,5 @@
 -- What a JSON Pointer to a component finds in a tree: the entry of that name in that map.
-use Rattle.std.proofs.Common.{◌≡◌, ◌≢◌, ◌==◌, ℕ, zero, suc, List, [], ◌∷◌, ◌++◌, map, Bool, true, false, cond, if◌then◌else◌, Option, None, Some, option_map, option_and_then, codes, refl, sym, ap, ◌∙◌, subst, arith, true≢false, eq-eqb}
+use Rattle.std.proofs.Common.{◌≡◌, ◌≢◌, ℕ, List, [], ◌∷◌, ◌++◌, map, Bool, true, false, cond, if◌then◌else◌, Option, None, Some, option_map, option_and_then, codes, refl, sym, ap, ◌∙◌, true≢false, eq-eqb}
 use Rattle.std.proofs.lemmas.Slice.Eq.{bytes_eq-Decides}
 use Rattle.std.proofs.lemmas.List.Splits.{join_with_byte-slice_split}
 use Rattle.std.specs.List.{slice_split, onto_first, join_with_byte}
@@ -7,8 +7,8 @@ use Rattle.std.specs.Str.{bytes_eq}
 use Rattle.serde_json.specs.Data.{Data, null, boolean, number, string, array, object}
 use Rattle.fast_float.specs.Text.{scan}
 use Rattle.serde_json.specs.Find.{get, get_item, get_member, pointer, step, walk, unescape, index_of}
-use Rattle.serde_json.proofs.Paths.{Lacks, walk_part, walk_last, unescape_plain}
-use Rattle.utoipa_base.specs.References.{Target, elsewhere, nowhere, place, is_slash, path_of, target_of, at_target, component_at, component_at_target, component_of, component_map_text, every_component_map, field_of_components, component, IsNoList}
+use Rattle.serde_json.proofs.Paths.{Lacks, walk_part, walk_last}
+use Rattle.utoipa_base.specs.References.{Target, elsewhere, nowhere, place, is_slash, path_of, at_target, component_at, component_at_target, component_map_text, every_component_map, field_of_components, component, IsNoList}
 use Rattle.utoipa_base.specs.Vocabularies.{with_text}
 use Rattle.utoipa_base.specs.declared.refs.component.ComponentMap.{ComponentMap}
 use Rattle.utoipa_base.specs.declared.refs.component.ComponentMap.TheVariants as maps

@@ -55,3 +55,6 @@ pub mod Fronts
 pub mod PointerPaths
 pub mod LocalReferences
 pub mod ComponentsFound
+pub mod UnambiguousParts
+pub mod UnambiguousTest
+pub mod WithoutReference

@@ -5,7 +5,7 @@ use Rattle.std.specs.List.{slice_split}
 use Rattle.std.specs.Str.{IsUtf8, is_utf8}
 use Rattle.percent_encoding.specs.Percent.{percent_decode}
 use Rattle.serde_json.specs.Find.{unescape}
-use Rattle.utoipa_base.specs.References.{Target, elsewhere, nowhere, place, is_slash, target_of_text, target_of_fragment, target_of, path_of, component_at, component_at_target, component_of}
+use Rattle.utoipa_base.specs.References.{elsewhere, nowhere, place, is_slash, target_of_text, target_of_fragment, path_of, component_at, component_at_target, component_of}
 
 by_slash : (c : ℕ) (cs : List ℕ) (b : Bool) → b ≡ is_slash c → component_at_target (if b then place (c ∷ cs) else elsewhere) ≡ component_at (path_of (c ∷ cs))
 by_slash c cs true is = refl

@@ -13,6 +13,7 @@ pub mod Writing
 pub mod NormalForm
 pub mod Shape
 pub mod WellFormed
+pub mod Unambiguous
 pub mod Values
 pub mod Fields
 pub mod Faults

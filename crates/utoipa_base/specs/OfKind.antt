@@ -1,10 +1,11 @@
 -- Why each value of the basic types is a document of its type's kind.
-use Rattle.std.specs.Prelude.{ℕ, List, [], ◌∷◌, Bool, true, false, Option, None, Some, map, String, refl}
+use Rattle.std.specs.Prelude.{◌≡◌, ℕ, List, [], ◌∷◌, Bool, true, false, Option, None, Some, map, String, refl}
 use Rattle.std.specs.declared.alloc.Global.{Global}
 use Rattle.std.specs.BTreeMap.{BTreeMap}
 use Rattle.std.specs.Prelude.{Vec, Box}
 use Rattle.indexmap.specs.IndexMap.{IndexMap}
 use Rattle.serde_json.specs.Data.{Members}
+use Rattle.serde_json.specs.Find.{as_str}
 use Rattle.serde_json.specs.declared.value.Value.{Value}
 use Rattle.utoipa_base.specs.Kinds.{ObjectType, reference_object, Kind, text, flag, any, whole, numeral, list_of, map_of, ordered_map_of, entries_of, ref_or, named, Row}
 use Rattle.utoipa_base.specs.Docs.{Doc, flag_doc, whole_doc, table_doc, Docs, no_docs, doc, docs_of, entries_of_list}
@@ -12,6 +13,7 @@ use Rattle.utoipa_base.specs.Tables.{table, has_extensions}
 use Rattle.utoipa_base.specs.Shape.{Place, value_of, option_of, field_place, IsOf, ItemsOf, EntriesOf, RowsOf, Extends}
 use Rattle.utoipa_base.specs.Views as views
 use Rattle.utoipa_base.specs.Refs.{reference_doc, ref_or_doc}
+use Rattle.utoipa_base.specs.Writing.{write}
 use Rattle.utoipa_base.specs.Flags.{deprecated_doc, required_doc}
 use Rattle.utoipa_base.specs.Numbers.{number_doc}
 use Rattle.utoipa_base.specs.declared.deprecated.Deprecated.{Deprecated}
@@ -136,3 +138,8 @@ ref_or_of_kind f k each (made.T x) = (k, refl, each x)
 pub extends_of_kind : (e : Option Members) → Extends true e
 extends_of_kind None = tt
 extends_of_kind (Some ms) = refl
+
+-- an object of a type is written as no text
+pub object_is_no_text : (n : ObjectType) (ds : Docs) (e : Option Members) → as_str (write (table_doc n ds e)) ≡ None
+unfolding write
+object_is_no_text n ds e = refl

@@ -1,7 +1,7 @@
 //! What holds of every type that is read and written, as contracts of functions that do nothing.
 //!
 //! A caller with a value or a tree at hand learns the law by the call. Each law holds of a user's own types too.
-ghost use Rattle.std.specs.Prelude.{◌≡◌, ◌<◌, ℕ, List, Some, true, false};
+ghost use Rattle.std.specs.Prelude.{◌≡◌, ◌<◌, ◌↔◌, ℕ, List, Some, IsTrue, true, false};
 ghost use Rattle.serde_json.specs.View.{view};
 ghost use Rattle.serde_json.specs.Written.{has_float};
 ghost use Rattle.utoipa_base.specs.Docs.{Doc};
@@ -9,12 +9,14 @@ ghost use Rattle.utoipa_base.specs.Reading.{read};
 ghost use Rattle.utoipa_base.specs.NormalForm.{normal_form};
 ghost use Rattle.utoipa_base.specs.References.{component, component_map_text, component_of, target_of, at_target, field_of_components, IsNoList};
 ghost use Rattle.utoipa_base.specs.Shape.{IsOf, value_of};
-ghost use Rattle.utoipa_base.specs.WellFormed.{IsPlain, IsWellFormed, IsUnambiguous, ReadsAs};
+ghost use Rattle.utoipa_base.specs.Unambiguous.{is_unambiguous};
+ghost use Rattle.utoipa_base.specs.WellFormed.{IsPlain, IsWellFormed, IsUnambiguous, ReadsAs, has_fraction};
 ghost use Rattle.utoipa_base.specs.Values.{values, names_values, are_distinct};
 ghost use Rattle.utoipa_base.specs.Writing.{write};
 ghost use Rattle.utoipa_base.specs.declared.refs.component.ComponentMap.{ComponentMap};
 
 use crate::tree::Tree;
+use crate::unambiguous::Unambiguous;
 use serde_json::Value;
 
 /// A well-formed value reads back from its own tree as its normal form. It need not be plain for its tree to read so.
@@ -22,6 +24,20 @@ pub fn reads_back<T: Tree>(value: &T)
     ensures well_formed { IsWellFormed (T.doc value.now)
         → ReadsAs T.kind (write (T.doc value.now)) (normal_form (T.doc value.now)) }
     ensures with_fractions { IsUnambiguous (T.doc value.now)
+        → read T.kind (write (T.doc value.now)) ≡ Some (normal_form (T.doc value.now)) }
+{}
+
+/// The test of [`Unambiguous::is_unambiguous`] holds exactly of the values that are unambiguous, and of those without a fraction exactly of
+/// the well-formed ones.
+pub fn unambiguous_exactly<T: Unambiguous>(value: &T)
+    ensures unambiguous { IsTrue (is_unambiguous (T.doc value.now)) ↔ IsUnambiguous (T.doc value.now) }
+    ensures well_formed { has_fraction (T.doc value.now) ≡ false
+        → IsTrue (is_unambiguous (T.doc value.now)) ↔ IsWellFormed (T.doc value.now) }
+{}
+
+/// A value of which [`Unambiguous::is_unambiguous`] answers true reads back, from the tree that it is written as, as its normal form.
+pub fn comes_back<T: Unambiguous>(value: &T)
+    ensures { is_unambiguous (T.doc value.now) ≡ true
         → read T.kind (write (T.doc value.now)) ≡ Some (normal_form (T.doc value.now)) }
 {}
 

@@ -36,6 +36,7 @@ pub mod table;
 mod text;
 pub mod token_tree;
 pub mod tree;
+pub mod unambiguous;
 pub mod unread;
 pub mod words;
 
@@ -73,5 +74,9 @@ pub use sink::JsonSink;
 pub use table::{clone_rows, read_table, read_table_alone};
 pub use token_tree::next_tree;
 pub use tree::{Place, Tree};
+pub use unambiguous::{
+    NeverText, NoReference, Unambiguous, boxed_is_unambiguous, extensions_are_unambiguous,
+    names_are_no_extensions, option_is_unambiguous,
+};
 pub use unread::Unread;
 pub use words::{Word, emit_word, read_word};

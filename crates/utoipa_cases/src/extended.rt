@@ -1,6 +1,6 @@
 //! The types that keep extensions.
 
-use utoipa_base::{Extensions, Tree};
+use utoipa_base::{Extensions, Tree, Unambiguous};
 use utoipa_leaf::example::Example;
 use utoipa_leaf::external_docs::ExternalDocs;
 use utoipa_leaf::info::{Contact, Info, License};
@@ -11,6 +11,7 @@ use utoipa_media::encoding::Encoding;
 use utoipa_media::header::Header;
 use utoipa_media::link::Link;
 use utoipa_operation_parts::{Parameter, RequestBody, Response, Responses};
+use utoipa_path::Operation;
 use utoipa_schema::{AllOf, AnyOf, Array, Object, OneOf, Schema};
 use utoipa_schema_parts::Discriminator;
 use utoipa_security::security::{
@@ -19,7 +20,7 @@ use utoipa_security::security::{
 };
 
 /// A type whose values keep extensions.
-pub trait Extended: Tree {
+pub trait Extended: Tree + Unambiguous {
     /// Sets the extensions, in place of those that the value has.
     fn set_extensions(&mut self, extensions: Extensions);
 }
@@ -157,6 +158,12 @@ impl Extended for AnyOf {
 }
 
 /// Of the combination, array or object that the schema is.
+impl Extended for Operation {
+    fn set_extensions(&mut self, extensions: Extensions) {
+        self.extensions = Some(extensions);
+    }
+}
+
 impl Extended for Schema {
     fn set_extensions(&mut self, extensions: Extensions) {
         match self {

@@ -7,6 +7,7 @@
 //! |---|---|---|
 //! | `read TYPE` | a JSON text | what a copy of the value that its tree reads as is written as, or the refusal |
 //! | `print TYPE` | two JSON texts, a tab between: a value, and an object whose members are its extensions | what the value prints, or the refusal |
+//! | `comes-back TYPE` | the same | whether it reads back from the tree that it is written as: `yes` or `no`, or the refusal |
 //! | `fault TYPE` | a JSON text | what the fault of reading it says |
 //! | `fits TYPE` | a JSON text | whether its tree is a document of the type: `yes` or `no` |
 //! | `count TYPE` | a JSON text | the schema readings, and the values of the tree |
@@ -28,6 +29,7 @@ mod extensions;
 mod same;
 mod types;
 
+use crate::extensions::{Asked, answered_with_extensions};
 use std::alloc::{AllocError, Global};
 use std::io;
 use utoipa_base::Ref;
@@ -52,7 +54,10 @@ fn answer_of(alloc: Global, line: &str) -> Result<String, AllocError> {
 
 fn answer_to_call(alloc: Global, call: &Call<'_>) -> Result<String, AllocError> {
     match call.name {
-        "print" => extensions::printed_with_extensions(alloc, call.subject(), call.given),
+        "print" => answered_with_extensions(alloc, Asked::Print, call.subject(), call.given),
+        "comes-back" => {
+            answered_with_extensions(alloc, Asked::ComesBack, call.subject(), call.given)
+        }
         "same" => same::are_same(alloc, call.subject(), call.given),
         "component" => component_of(alloc, call.given),
         "compose" | "schema" | "name" | "schemas" => compositions::answer_to_call(alloc, call),

@@ -4,3 +4,4 @@ pub mod MoreLooks
 pub mod Refused
 pub mod FilledMaps
 pub mod PutTwice
+pub mod UnambiguousMaps

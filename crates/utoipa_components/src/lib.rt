@@ -5,6 +5,7 @@ mod builder;
 pub mod components;
 pub mod merging;
 mod resolve;
+mod unambiguous;
 
 pub use builder::ComponentsBuilder;
 pub use components::Components;

@@ -1,2 +1,3 @@
 pub mod Pieces
 pub mod Versions
+pub mod UnambiguousFields

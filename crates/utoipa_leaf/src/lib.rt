@@ -7,4 +7,5 @@ pub mod info;
 pub mod path;
 pub mod server;
 pub mod tag;
+mod unambiguous;
 pub mod version;

@@ -3,3 +3,4 @@ pub mod Built
 pub mod Counts
 pub mod EncodingParts
 pub mod Weights
+pub mod UnambiguousEncodings

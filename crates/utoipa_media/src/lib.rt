@@ -14,5 +14,6 @@ mod read;
 mod rows;
 pub mod trees;
 mod types;
+mod unambiguous;
 
 pub use trees::{read_content_map, read_encoding_list, read_ref_or_header};

@@ -1,2 +1,3 @@
 pub mod ResponsesByCode
 pub mod LaterResponses
+pub mod UnambiguousParameters

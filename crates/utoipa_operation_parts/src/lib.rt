@@ -7,6 +7,7 @@ pub mod parameter;
 pub mod request_body;
 pub mod response;
 mod traits;
+mod unambiguous;
 
 pub use parameter::{Parameter, ParameterBuilder};
 pub use request_body::{RequestBody, RequestBodyBuilder, RequestBodyExt};

@@ -6,3 +6,5 @@ pub mod ByMethod
 pub mod PathParts
 pub mod RowsByFields
 pub mod Weights
+pub mod UnambiguousFields
+pub mod ItemsWithoutReference

@@ -1,14 +1,16 @@
 -- Each operation, path item and callback is a document of its kind.
-use Rattle.std.proofs.Common.{◌∙◌, ap, sym, subst, option_map}
+use Rattle.std.proofs.Common.{◌≡◌, ◌∙◌, ap, sym, subst, option_map, None}
+use Rattle.serde_json.specs.Find.{as_str}
 use Rattle.utoipa_base.specs.Docs.{Doc}
 use Rattle.utoipa_base.specs.Extensions.{extensions_view}
 use Rattle.utoipa_base.specs.Flags.{deprecated_doc}
 use Rattle.utoipa_base.specs.Kinds.{text, flag, list_of, ref_or, named, external_docs_object, server_object, parameter_object, request_body_object, operation_object, path_item_object}
-use Rattle.utoipa_base.specs.OfKind.{text_of_kind, deprecated_of_kind, option_of_kind, list_of_kind, map_of_kind, ref_or_of_kind, extends_of_kind, no_rows, next_row, table_of_kind}
+use Rattle.utoipa_base.specs.OfKind.{object_is_no_text, text_of_kind, deprecated_of_kind, option_of_kind, list_of_kind, map_of_kind, ref_or_of_kind, extends_of_kind, no_rows, next_row, table_of_kind}
 use Rattle.utoipa_base.specs.Refs.{ref_or_doc}
 use Rattle.utoipa_base.specs.Shape.{IsOf, value_of}
 use Rattle.utoipa_base.specs.Tables.{callback, security_requirement}
 use Rattle.utoipa_base.specs.Views.{text_of, list_of_docs}
+use Rattle.utoipa_base.specs.Writing.{write}
 use Rattle.utoipa_leaf.specs.ExternalDocs.{external_docs_doc, external_docs_of_kind}
 use Rattle.utoipa_leaf.specs.Server.{server_doc, server_of_kind}
 use Rattle.utoipa_operation_parts.specs.Parameter.{parameter_doc, parameter_of_kind}
@@ -79,3 +81,7 @@ operation_of_kind = ind-Operation IsOperation IsPathItem
 
 pub path_item_of_kind : (i : PathItem) → IsOf (path_item_doc i) (value_of (named path_item_object))
 path_item_of_kind i = path_item_layer_of_kind operation_doc operation_of_kind (out-PathItem i)
+
+-- a path item is written as an object
+pub path_item_is_no_text : (i : PathItem) → as_str (write (path_item_doc i)) ≡ None
+path_item_is_no_text i = object_is_no_text path_item_object _ _

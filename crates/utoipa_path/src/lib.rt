@@ -13,6 +13,7 @@ mod read;
 mod rows;
 pub mod trees;
 mod types;
+mod unambiguous;
 
 pub use operation::{Callback, Operation, OperationBuilder};
 pub use operations::{ItemOperation, OperationMethod};

@@ -6,6 +6,7 @@ mod items;
 mod merging;
 pub mod paths;
 mod traits;
+mod unambiguous;
 
 pub use builder::PathsBuilder;
 pub use merging::merge_paths;

@@ -12,3 +12,5 @@ pub mod SchemaMembers
 pub mod Taken
 pub mod Walks
 pub mod Weights
+pub mod FieldsAsked
+pub mod UnambiguousSchemas

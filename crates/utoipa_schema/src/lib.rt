@@ -21,6 +21,7 @@ mod places;
 mod read;
 pub mod trees;
 pub mod types;
+mod unambiguous;
 mod without_schemas;
 
 pub use all_of::AllOfBuilder;

@@ -3,3 +3,4 @@ mod Mappings
 pub mod ReadFormats
 pub mod ReadTypes
 pub mod SameXml
+pub mod UnambiguousFields

@@ -5,6 +5,7 @@
 pub mod discriminator;
 pub mod format;
 pub mod types;
+mod unambiguous;
 pub mod xml;
 
 pub use discriminator::Discriminator;

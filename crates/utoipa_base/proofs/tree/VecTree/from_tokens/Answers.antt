@@ -1,7 +1,6 @@
 use Rattle.std.proofs.Common.{◌≡◌, ◌<◌, ◌-◌, ◌∷◌, None, length, ap, subst, sym, arith}
 use Rattle.json.specs.Json.{after_end_array}
 use Rattle.json.specs.Reads.{token_of}
-use Rattle.json.specs.Token as token
 use Rattle.utoipa_base.specs.FromTokens.{FromTokens}
 use Rattle.utoipa_base.specs.Reading.{read}
 use Rattle.utoipa_base.proofs.TokenLists.{begun, step, all_read}
