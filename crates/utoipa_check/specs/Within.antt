@@ -1,4 +1,4 @@
--- That a written tree has no place besides those of a tree, but for the null that external docs without a description are written with.
+-- That a written tree has no place besides those of a tree, but for a null under `description` where the object of the tree has none.
 use Rattle.std.specs.Prelude.{◌≡◌, ◌⊎◌, ℕ, List, None, codes}
 use Rattle.serde_json.specs.Data.{Data, null, boolean, number, string, array, object, Items, no_items, item, Members, no_members, member}
 use Rattle.serde_json.specs.Find.{get_member}

@@ -44,8 +44,8 @@ pub fn without_doubts_well_formed(tree: &Value)
     let _tree = tree;
 }
 
-/// A document that was read of a tree is written with no place besides those of the tree, but that external docs without a `description` are
-/// written with null there.
+/// A document that was read of a tree is written with no place besides those of the tree, but for a null under `description` where the object of
+/// the tree has none. External docs are written with one.
 pub fn nothing_is_written_besides(tree: &Value)
     ensures { (k : Kind) → (d : Doc) → read k (view tree.now) ≡ Some d → IsWithin (write d) (view tree.now) }
 {
@@ -70,8 +70,8 @@ pub fn component_is_resolved(text: &str, tree: &Value)
     let _tree = tree;
 }
 
-/// A text that is shown is on one line, and it can be had back. So each pointer is that is shown, and each line that is displayed of a misfit, of a
-/// reference or of what is dropped.
+/// A text that is shown is on one line, and the text can be had back from it. So each pointer that is shown is on one line, and what is displayed
+/// of a misfit, of a reference and of what is dropped.
 pub fn shown_is_one_line()
     ensures one_line { (text : List ℕ) → IsOneLine (shown text) }
     ensures back { (text : List ℕ) → IsUtf8 text → meant (shown text) ≡ text }

@@ -1,8 +1,8 @@
 //! What is dropped where documents are merged, told of the documents and not of their trees.
-ghost use Rattle.std.specs.Prelude.{◌≡◌, ◌++◌, [], Some, All, IfOk, length, map, string_bytes, vec_len};
+ghost use Rattle.std.specs.Prelude.{◌≡◌, ◌++◌, [], true, Some, All, IfOk, length, map, string_bytes, vec_len};
 ghost use Rattle.utoipa_base.specs.Docs.{Doc};
 ghost use Rattle.utoipa_base.specs.Kinds.{named, open_api_object};
-ghost use Rattle.utoipa_base.specs.WellFormed.{IsUnambiguous};
+ghost use Rattle.utoipa_base.specs.Unambiguous.{is_unambiguous};
 ghost use Rattle.utoipa_base.specs.Writing.{write};
 ghost use Rattle.utoipa_conflicts.specs.Deciders.{trees_of};
 ghost use Rattle.utoipa_conflicts.specs.Merged as specs;
@@ -78,8 +78,8 @@ pub fn trees_of_documents<T: Tree>(alloc: Global, documents: &[T]) -> Result<Vec
 /// It is asked before the documents are merged, for merging takes them; a document keeps the number that it has in the list. Of two documents
 /// that call a component alike, one ends with references that lead to the other's: here each is told.
 ///
-/// Of unambiguous OpenAPI documents these are the values that the merged document lacks, all of them and no others: where there is none, each
-/// value that a document has in a slot stands there in the merged document.
+/// Of OpenAPI documents of which `is_unambiguous` answers true these are the values that the merged document lacks, all of them and no others:
+/// where there is none, each value that a document has in a slot stands there in the merged document.
 pub fn conflicts<T: Tree>(
     alloc: Global,
     documents: &[T],
@@ -89,10 +89,10 @@ pub fn conflicts<T: Tree>(
         → specs.TellWhatIsLost (map T.doc documents.now) d (all_told v.items)) }
 
     // Of a type of documents nothing else has to be known.
-    ensures lost { T.kind ≡ named open_api_object → IfOk result (λ v. (d : Doc) → All IsUnambiguous (map T.doc documents.now)
+    ensures lost { T.kind ≡ named open_api_object → IfOk result (λ v. (d : Doc) → All (λ d. is_unambiguous d ≡ true) (map T.doc documents.now)
         → IsMerged (map T.doc documents.now) d → IsInKeyOrder d
         → specs.TellWhatIsLost (map T.doc documents.now) d (all_told v.items)) }
-    ensures none { T.kind ≡ named open_api_object → IfOk result (λ v. v.items ≡ [] → (d : Doc) → All IsUnambiguous (map T.doc documents.now)
+    ensures none { T.kind ≡ named open_api_object → IfOk result (λ v. v.items ≡ [] → (d : Doc) → All (λ d. is_unambiguous d ≡ true) (map T.doc documents.now)
         → IsMerged (map T.doc documents.now) d → IsInKeyOrder d → specs.IsAllThere (map T.doc documents.now) d) }
 {
     let trees = trees_of_documents(alloc, documents)?;

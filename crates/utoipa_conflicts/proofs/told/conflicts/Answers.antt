@@ -1,15 +1,15 @@
-use Rattle.std.proofs.Common.{◌≡◌, map, ap, sym, ◌∙◌, subst, All}
+use Rattle.std.proofs.Common.{◌≡◌, true, map, ap, sym, ◌∙◌, subst, All}
 use Rattle.std.proofs.lemmas.Result.{IfOk-weaker}
 use Rattle.std.proofs.lemmas.Simd.{map-map}
 use Rattle.utoipa_base.specs.Docs.{Doc}
-use Rattle.utoipa_base.specs.WellFormed.{IsUnambiguous}
+use Rattle.utoipa_base.specs.Unambiguous.{is_unambiguous}
 use Rattle.utoipa_base.specs.Writing.{write}
 use Rattle.utoipa_conflicts.specs.Conflicts.{conflicts}
 use Rattle.utoipa_conflicts.specs.Deciders.{trees_of}
 use Rattle.utoipa_conflicts.specs.Holders.{IsNamedOnce}
 use Rattle.utoipa_conflicts.specs.Merged as specs
 use Rattle.utoipa_conflicts.specs.Views.{conflict_of, all_told}
-use Rattle.utoipa_conflicts.proofs.OfDocuments.{are_merged, none_told}
+use Rattle.utoipa_conflicts.proofs.OfDocuments.{all_tested, are_merged, none_told}
 use Rattle.utoipa_conflicts.proofs.Telling.{tells}
 use Rattle.utoipa_merging.specs.Merged.{IsInKeyOrder, IsMerged}
 use Rattle.utoipa_conflicts.proofs.told.conflicts.Goals as goal
@@ -39,10 +39,10 @@ returns-clause-lost g c is =
     let ds = c.args.documents.now in
     let documents = map g.T.Documented.doc ds in
     IfOk-weaker c.all_in_text.result (λ v. (d : Doc) → specs.AreMergedInto documents d → specs.TellWhatIsLost documents d (all_told v.items)) _
-    (λ v tell d clear merged ordered. tell d (are_merged g.T.Documented.doc g.T.Documented.kind g.met.T.Tree.is_of_kind is ds d clear merged ordered)) (returns-clause-lost_of_any g c)
+    (λ v tell d clear merged ordered. tell d (are_merged g.T.Documented.doc g.T.Documented.kind g.met.T.Tree.is_of_kind is ds d (all_tested g.T.Documented.doc g.T.Documented.kind g.met.T.Tree.is_of_kind ds clear) merged ordered)) (returns-clause-lost_of_any g c)
 
 pub returns-clause-none : goal.returns-clause-none
 returns-clause-none g c is =
     let documents = map g.T.Documented.doc c.args.documents.now in
-    IfOk-weaker c.all_in_text.result (λ v. (d : Doc) → All IsUnambiguous documents → IsMerged documents d → IsInKeyOrder d → specs.TellWhatIsLost documents d (all_told v.items)) _
+    IfOk-weaker c.all_in_text.result (λ v. (d : Doc) → All (λ e. is_unambiguous e ≡ true) documents → IsMerged documents d → IsInKeyOrder d → specs.TellWhatIsLost documents d (all_told v.items)) _
     (λ v tell none d clear merged ordered. none_told documents d (all_told v.items) (tell d clear merged ordered) (ap all_told none)) (returns-clause-lost g c is)
