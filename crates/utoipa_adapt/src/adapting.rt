@@ -1,12 +1,12 @@
-//! Adapting a tree: its parts are moved into a new one.
-ghost use Rattle.std.specs.Prelude.{◌≡◌, IfOk, Some};
-ghost use Rattle.serde_json.specs.Data.{put};
+//! Adapting a tree: first what stands in it, then the tree itself.
+ghost use Rattle.std.specs.Prelude.{◌≡◌, IfOk};
 ghost use Rattle.serde_json.specs.View.{view, items_view, members_view};
-ghost use Rattle.utoipa_adapt.specs.Rules as specs;
-ghost use Rattle.utoipa_adapt.specs.Views.{member_of, some_member};
+ghost use Rattle.utoipa_adapt.specs.Adapted as specs;
 ghost use Rattle.utoipa_tables.specs.Tables.{kind_of};
 
-use crate::rules::{DefaultMember, default_of, item_kind, member_kind, object_kind};
+use crate::changing::by_rules;
+use crate::kinds::{item_kind, member_kind, own_kind};
+use crate::rules::rules_of;
 use serde_json::{Map, Value};
 use std::alloc::{AllocError, Global};
 use utoipa_tables::Kind;
@@ -26,17 +26,21 @@ fn adapt_tree(alloc: Global, kind: Kind, tree: Value) -> Result<Value, AllocErro
     if matches!(kind, Kind::Any) {
         return Ok(tree);
     }
-    let own = object_kind(kind, &tree);
+    let own = own_kind(kind, &tree);
+    let rules = rules_of(own);
     match tree {
-        Value::Null => Ok(Value::Null),
-        Value::Bool(flag) => Ok(Value::Bool(flag)),
-        Value::Number(number) => Ok(Value::Number(number)),
-        Value::String(text) => Ok(Value::String(text)),
-        Value::Array(items) => Ok(Value::Array(adapt_items(alloc, item_kind(kind), items)?)),
-        Value::Object(members) => {
-            let inner = adapt_members(alloc, own, members)?;
-            Ok(Value::Object(filled(alloc, default_of(own), inner)?))
+        Value::Array(items) => {
+            let inner = Value::Array(adapt_items(alloc, item_kind(own), items)?);
+            by_rules(alloc, rules, inner)
         }
+        Value::Object(members) => {
+            let inner = Value::Object(adapt_members(alloc, own, members)?);
+            by_rules(alloc, rules, inner)
+        }
+        Value::Null => by_rules(alloc, rules, Value::Null),
+        Value::Bool(flag) => by_rules(alloc, rules, Value::Bool(flag)),
+        Value::Number(number) => by_rules(alloc, rules, Value::Number(number)),
+        Value::String(text) => by_rules(alloc, rules, Value::String(text)),
     }
 }
 
@@ -69,49 +73,4 @@ fn adapt_members(
         drop(done.insert(name, inner)?);
     }
     Ok(done)
-}
-
-/// An object with the member, unless it has one of that name.
-fn filled(
-    alloc: Global,
-    default: Option<DefaultMember>,
-    members: Map<String, Value>,
-) -> Result<Map<String, Value>, AllocError>
-    ensures { IfOk result
-        (λ m. members_view m.entries ≡ specs.filled (some_member default) (members_view members.entries)) }
-{
-    match default {
-        None => Ok(members),
-        Some(member) => filled_with(alloc, member, members),
-    }
-}
-
-/// An object with the member, unless it has one of that name.
-fn filled_with(
-    alloc: Global,
-    member: DefaultMember,
-    members: Map<String, Value>,
-) -> Result<Map<String, Value>, AllocError>
-    ensures { IfOk result (λ m. members_view m.entries
-        ≡ specs.filled (Some (member_of member)) (members_view members.entries)) }
-{
-    if members.contains_key(member.name()) {
-        return Ok(members);
-    }
-    put_default(alloc, member, members)
-}
-
-/// An object with the member.
-fn put_default(
-    alloc: Global,
-    member: DefaultMember,
-    members: Map<String, Value>,
-) -> Result<Map<String, Value>, AllocError>
-    ensures { IfOk result (λ m. members_view m.entries ≡ put (specs.member_name (member_of member))
-        (specs.member_default (member_of member)) (members_view members.entries)) }
-{
-    let mut all = members;
-    let name = String::from_str(alloc, member.name())?;
-    drop(all.insert(name, member.default_tree(alloc))?);
-    Ok(all)
 }

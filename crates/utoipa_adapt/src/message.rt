@@ -1,37 +1,36 @@
 //! What was adapted, in words.
 ghost use Rattle.std.specs.Prelude.{◌≡◌, Some};
-ghost use Rattle.utoipa_adapt.specs.Said.{default_text as text_of_default, adaptation_text, told_text};
-ghost use Rattle.utoipa_adapt.specs.Views.{member_of, adaptation_of, told_of};
+ghost use Rattle.utoipa_adapt.specs.Said.{rule_text, told_text};
+ghost use Rattle.utoipa_adapt.specs.Views.{rule_of, told_of};
 
-use crate::rules::DefaultMember;
-use crate::telling::{Adaptation, AdaptedPlace};
+use crate::rules::Rule;
+use crate::telling::AdaptedPlace;
 use std::fmt;
 
-/// What a member is where it is absent, as JSON.
-fn default_text(member: DefaultMember) -> &'static str
-    ensures { result.now ≡ text_of_default (member_of member) }
-{
-    match member {
-        DefaultMember::Paths => "{}",
-        DefaultMember::Responses => "{}",
-        DefaultMember::Required => "false",
+impl Rule {
+    /// What the rule makes of a tree, in words.
+    pub fn text(self) -> &'static str
+        ensures { result.now ≡ rule_text (rule_of self) }
+    {
+        match self {
+            Rule::PathsAbsent => "the member `paths` is absent, and is read as `{}`",
+            Rule::ResponsesAbsent => "the member `responses` is absent, and is read as `{}`",
+            Rule::RequiredAbsent => "the member `required` is absent, and is read as `false`",
+            Rule::VersionOfTwo => "the version has no third number, and is read with `.0`",
+            Rule::SchemeInOtherCase => "the scheme is read in lower case",
+            Rule::SchemaTrue => "the schema `true` is read as `{}`",
+            Rule::ConstAlone => "the member `const` is read as an `enum` of its value",
+            Rule::ItemsAbsent => "the member `items` is absent, and is read as `{}`",
+        }
     }
 }
 
-impl fmt::Display for Adaptation {
-    ghost output = { λ a. Some (adaptation_text (adaptation_of a)) };
+impl fmt::Display for Rule {
+    ghost output = { λ r. Some (rule_text (rule_of r)) };
 
     fn fmt<W: fmt::Write>(&self, f: &mut fmt::Formatter<W>) -> fmt::Result {
-        match self {
-            Adaptation::FilledWith(member) => {
-                let name = member.name();
-                let default = default_text(*member);
-                write!(
-                    f,
-                    "the member `{name}` is absent, and is read as `{default}`"
-                )
-            }
-        }
+        let text = self.text();
+        write!(f, "{text}")
     }
 }
 
@@ -41,7 +40,7 @@ impl fmt::Display for AdaptedPlace<'_> {
 
     fn fmt<W: fmt::Write>(&self, f: &mut fmt::Formatter<W>) -> fmt::Result {
         let pointer = &self.pointer;
-        let adaptation = self.adaptation;
-        write!(f, "{pointer}: {adaptation}")
+        let rule = self.rule;
+        write!(f, "{pointer}: {rule}")
     }
 }

@@ -1,31 +1,25 @@
 //! What is adapted in a tree, and where.
 ghost use Rattle.std.specs.Prelude.{◌≡◌, ◌++◌, IfOk, OnOk};
 ghost use Rattle.serde_json.specs.View.{view, items_view, members_view};
-ghost use Rattle.utoipa_adapt.specs.Rules as specs;
-ghost use Rattle.utoipa_adapt.specs.Views.{all_told, some_member};
+ghost use Rattle.utoipa_adapt.specs.Adapted as specs;
+ghost use Rattle.utoipa_adapt.specs.Views.{all_rules, all_told};
 ghost use Rattle.utoipa_check.specs.Views.{step_of};
 ghost use Rattle.utoipa_tables.specs.Tables.{kind_of};
 
-use crate::rules::{DefaultMember, default_of, item_kind, member_kind, object_kind};
+use crate::kinds::{item_kind, member_kind, own_kind};
+use crate::rules::{Rule, rules_of};
 use serde_json::{Map, Value};
 use std::alloc::{AllocError, Global};
 use utoipa_check::{Pointer, Step};
 use utoipa_tables::Kind;
 
-/// What was adapted at a place.
-#[derive(Clone, Copy, Debug, Drop, PartialEq, Eq)]
-pub enum Adaptation {
-    /// The object there lacks this member, and was given it with its default.
-    FilledWith(DefaultMember),
-}
-
-/// A place of a tree, and what was adapted there.
+/// A place of a tree, and the rule that changes the tree there.
 #[derive(Drop)]
 pub struct AdaptedPlace<'a> {
     /// The place, in the tree as it was.
     pub pointer: Pointer<'a>,
-    /// What was adapted.
-    pub adaptation: Adaptation,
+    /// The rule.
+    pub rule: Rule,
 }
 
 /// Adds what was adapted in a tree, by the places of the tree that it stands in. Fails where memory runs out.
@@ -44,31 +38,30 @@ fn put_under<'a>(
     Ok(())
 }
 
-/// Adds that an object was given the member, if it lacks it. Fails where memory runs out.
-fn put_lacking(
+/// Adds the rules that change a tree. Fails where memory runs out.
+fn put_here(
     alloc: Global,
-    default: Option<DefaultMember>,
+    rules: &[Rule],
     tree: &Value,
     told: &mut Vec<AdaptedPlace<'_>>,
 ) -> Result<(), AllocError>
     ensures { OnOk result (all_told told.new.items
-        ≡ all_told told.old.items ++ specs.lacking (some_member default) (view tree.now)) }
+        ≡ all_told told.old.items ++ specs.told_here (all_rules rules.now) (view tree.now)) }
 {
-    let Some(member) = default else {
-        return Ok(());
-    };
-    if tree.get(member.name()).is_none() {
-        told.push(AdaptedPlace {
-            pointer: Pointer {
-                steps: Vec::new(alloc),
-            },
-            adaptation: Adaptation::FilledWith(member),
-        })?;
+    for rule in rules {
+        if rule.applies(tree) {
+            told.push(AdaptedPlace {
+                pointer: Pointer {
+                    steps: Vec::new(alloc),
+                },
+                rule: *rule,
+            })?;
+        }
     }
     Ok(())
 }
 
-/// All that is adapted in a tree of a kind, with its places. An object's own comes after that of its members.
+/// All that is adapted in a tree of a kind, with its places. What changes a tree itself comes after what changes the trees in it.
 ///
 /// Where the list is empty, the adapted tree is the tree itself. Fails where memory runs out.
 pub fn adaptations<'a>(
@@ -95,16 +88,14 @@ fn told_of_tree<'a>(
     if matches!(kind, Kind::Any) {
         return Ok(Vec::new(alloc));
     }
-    match tree {
-        Value::Array(items) => told_of_items(alloc, item_kind(kind), items),
-        Value::Object(members) => {
-            let own = object_kind(kind, tree);
-            let mut told = told_of_members(alloc, own, members)?;
-            put_lacking(alloc, default_of(own), tree, &mut told)?;
-            Ok(told)
-        }
-        Value::Null | Value::Bool(_) | Value::Number(_) | Value::String(_) => Ok(Vec::new(alloc)),
-    }
+    let own = own_kind(kind, tree);
+    let mut told = match tree {
+        Value::Array(items) => told_of_items(alloc, item_kind(own), items)?,
+        Value::Object(members) => told_of_members(alloc, own, members)?,
+        Value::Null | Value::Bool(_) | Value::Number(_) | Value::String(_) => Vec::new(alloc),
+    };
+    put_here(alloc, rules_of(own), tree, &mut told)?;
+    Ok(told)
 }
 
 /// What is adapted in the items of an array, each of the kind.

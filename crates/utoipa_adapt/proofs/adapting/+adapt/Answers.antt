@@ -6,8 +6,8 @@ use Rattle.serde_json.specs.View.{view, items_of, members_view}
 use Rattle.serde_json.proofs.Views.{Entry}
 use Rattle.utoipa_check.proofs.Steps.{none_left}
 use Rattle.utoipa_tables.specs.Tables.{kind_of}
-use Rattle.utoipa_adapt.specs.Rules.{adapter, adapted_members}
-use Rattle.utoipa_adapt.proofs.Settled.{adapted_any}
+use Rattle.utoipa_adapt.specs.Adapted.{adapted, adapted_members}
+use Rattle.utoipa_adapt.proofs.Same.{adapted_any}
 use Rattle.utoipa_adapt.proofs.Turns.{each_adapted, items_adapted, one_adapted, member_adapted}
 use Rattle.utoipa_adapt.proofs.adapting.+adapt.Goals as goal
 use Rattle.utoipa_adapt.proofs.adapting.+adapt.Goals.{adapt_tree-in-Any, adapt_tree-in_default}
@@ -15,7 +15,7 @@ use Rattle.utoipa_adapt.proofs.adapting.+adapt.Goals.{adapt_tree-in-Any, adapt_t
 pub adapt_tree-returns-then-matches : goal.adapt_tree-returns-then-matches
 adapt_tree-returns-then-matches t c =
     let tree = view c.args.tree in
-    elim c.match-matches.branch [ adapt_tree-in-Any w ↦ sym (ap (λ k. adapter tree (kind_of k)) w.in-Any.is ∙ adapted_any tree) | adapt_tree-in_default w ↦ absurd (true≢false (sym c.if-matches.true ∙ w.matches-is)) ]
+    elim c.match-matches.branch [ adapt_tree-in-Any w ↦ sym (ap (λ k. adapted (kind_of k) tree) w.in-Any.is ∙ adapted_any tree) | adapt_tree-in_default w ↦ absurd (true≢false (sym c.if-matches.true ∙ w.matches-is)) ]
 
 pub adapt_items-loop-item-preserved : goal.adapt_items-loop-item-preserved
 adapt_items-loop-item-preserved t c =

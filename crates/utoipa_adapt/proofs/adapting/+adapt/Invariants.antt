@@ -1,7 +1,7 @@
 use Rattle.std.proofs.Common.{◌≡◌, List, ◌++◌, map}
 use Rattle.serde_json.specs.View.{view, members_view}
 use Rattle.serde_json.proofs.Views.{Entry}
-use Rattle.utoipa_adapt.specs.Rules.{adapted_members}
+use Rattle.utoipa_adapt.specs.Adapted.{adapted_members}
 use Rattle.utoipa_adapt.proofs.Turns.{each_adapted}
 use Rattle.utoipa_tables.specs.Tables.{kind_of}
 use Rattle.utoipa_adapt.proofs.adapting.+adapt.Given as goal

@@ -3,9 +3,9 @@ use Rattle.std.proofs.lemmas.List.{drop_more, drop_all}
 use Rattle.utoipa_check.specs.Misfits.{at_index}
 use Rattle.utoipa_tables.specs.Tables.{kind_of}
 use Rattle.serde_json.specs.View.{view, members_view}
-use Rattle.utoipa_adapt.specs.Rules.{under, told, members_told}
+use Rattle.utoipa_adapt.specs.Adapted.{under, members_told, adaptations}
 use Rattle.utoipa_adapt.specs.Views.{all_told}
-use Rattle.utoipa_adapt.proofs.Settled.{told_any}
+use Rattle.utoipa_adapt.proofs.Same.{told_any}
 use Rattle.utoipa_adapt.proofs.Turns.{item_step, items_end, member_step, members_end}
 use Rattle.utoipa_adapt.proofs.telling.+told.Goals as goal
 use Rattle.utoipa_adapt.proofs.telling.+told.Goals.{told_of_tree-in-Any, told_of_tree-in_default}
@@ -13,7 +13,7 @@ use Rattle.utoipa_adapt.proofs.telling.+told.Goals.{told_of_tree-in-Any, told_of
 pub told_of_tree-returns-then-matches : goal.told_of_tree-returns-then-matches
 told_of_tree-returns-then-matches t c =
     let tree = view c.args.tree.now in
-    elim c.match-matches.branch [ told_of_tree-in-Any w ↦ ap all_told c.new.ensures.items ∙ sym (ap (λ k. told tree (kind_of k)) w.in-Any.is ∙ told_any tree) | told_of_tree-in_default w ↦ absurd (true≢false (sym c.if-matches.true ∙ w.matches-is)) ]
+    elim c.match-matches.branch [ told_of_tree-in-Any w ↦ ap all_told c.new.ensures.items ∙ sym (ap (λ k. adaptations (kind_of k) tree) w.in-Any.is ∙ told_any tree) | told_of_tree-in_default w ↦ absurd (true≢false (sym c.if-matches.true ∙ w.matches-is)) ]
 
 pub told_of_items-loop-item-preserved : goal.told_of_items-loop-item-preserved
 told_of_items-loop-item-preserved t c =

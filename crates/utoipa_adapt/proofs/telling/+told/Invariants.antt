@@ -1,6 +1,6 @@
 use Rattle.std.proofs.Common.{◌≡◌, ◌++◌, drop}
 use Rattle.serde_json.specs.View.{items_view, members_view}
-use Rattle.utoipa_adapt.specs.Rules.{items_told, members_told}
+use Rattle.utoipa_adapt.specs.Adapted.{items_told, members_told}
 use Rattle.utoipa_adapt.specs.Views.{all_told}
 use Rattle.utoipa_tables.specs.Tables.{kind_of}
 use Rattle.utoipa_adapt.proofs.telling.+told.Given as goal

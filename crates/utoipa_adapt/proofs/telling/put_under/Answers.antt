@@ -2,7 +2,7 @@ use Rattle.std.proofs.Common.{◌≡◌, ◌++◌, [], ◌∷◌, refl, sym, ap,
 use Rattle.std.proofs.lemmas.List.{append-nil}
 use Rattle.utoipa_check.specs.Views.{step_of}
 use Rattle.utoipa_check.proofs.Steps.{none_left}
-use Rattle.utoipa_adapt.specs.Rules.{under}
+use Rattle.utoipa_adapt.specs.Adapted.{under}
 use Rattle.utoipa_adapt.specs.Views.{all_told}
 use Rattle.utoipa_adapt.proofs.Turns.{put_one}
 use Rattle.utoipa_adapt.proofs.telling.put_under.Goals as goal

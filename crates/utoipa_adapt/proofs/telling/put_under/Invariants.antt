@@ -1,6 +1,6 @@
 use Rattle.std.proofs.Common.{◌≡◌, ◌++◌}
 use Rattle.utoipa_check.specs.Views.{step_of}
-use Rattle.utoipa_adapt.specs.Rules.{under}
+use Rattle.utoipa_adapt.specs.Adapted.{under}
 use Rattle.utoipa_adapt.specs.Views.{all_told}
 use Rattle.utoipa_adapt.proofs.telling.put_under.Given as goal
 
