@@ -64,9 +64,9 @@ fn note_name<'a>(
     put_member(alloc, name, found)
 }
 
-/// The places in a value where a name stands again. Fails where memory runs out.
+/// The places in a value where a name stands again in its object (RFC 8259, section 4), in the order of the text. Fails where memory runs out.
 #[cycle(places)]
-fn places_in_value<'v, 'a>(
+pub fn places_in_value<'v, 'a>(
     alloc: Global,
     value: &'v Value<'a>,
 ) -> Result<Vec<Pointer<'a>>, AllocError>
@@ -116,8 +116,9 @@ fn places_in_members<'v, 'a>(
     Ok(found)
 }
 
-/// Whether a name may stand again in an object of a text: where it is false, none does. Fails where memory runs out.
-fn may_have_duplicates(alloc: Global, text: &str) -> Result<bool, AllocError>
+/// Whether a name may stand again in an object of a text: where it is false, none does. It is asked before the text is read as values, which takes
+/// more. Fails where memory runs out.
+pub fn may_have_duplicates(alloc: Global, text: &str) -> Result<bool, AllocError>
     ensures { IfOk result (λ may. may ≡ false → specs.places_in (document text.now) ≡ []) }
 {
     let mut scratch = Scratch::new(alloc);

@@ -1,6 +1,7 @@
 -- A document in which nothing is found comes back.
-use Rattle.std.proofs.Common.{◌≡◌, List, [], ◌∷◌, ◌++◌, map, Bool, true, false, not, cond, ◌&&◌, Option, Some, None, option_map, is_some, refl, sym, ap, ◌∙◌, true≢false}
+use Rattle.std.proofs.Common.{◌≡◌, ℕ, List, [], ◌∷◌, ◌++◌, map, Bool, true, false, not, cond, ◌&&◌, Option, Some, None, option_map, is_some, refl, sym, ap, ◌∙◌, true≢false}
 use Rattle.std.specs.List.{flat_map}
+use Rattle.json.specs.Json.{document}
 use Rattle.serde_json.specs.Data.{Data}
 use Rattle.serde_json.specs.Written.{has_float}
 use Rattle.utoipa_base.specs.Docs.{Doc}
@@ -21,20 +22,21 @@ use Rattle.utoipa_check.proofs.DroppedHas.{nothing_dropped}
 use Rattle.utoipa_check.proofs.Sound.{misfits_and_fractions_exact}
 use Rattle.utoipa_check.proofs.Undoubted.{undoubted_well_formed}
 use Rattle.utoipa_check.proofs.Within.{written_within}
+use Rattle.utoipa_duplicates.specs.Duplicates.{places_in}
 use Rattle.utoipa_findings.specs.ComesBack.{ComesBack}
-use Rattle.utoipa_findings.specs.Findings.{unfit_at, doubtful_at, lost_at, dangles_at, or_none, dropped_where_read, refusals, meant_otherwise, findings}
+use Rattle.utoipa_findings.specs.Findings.{Finding, unfit_at, doubtful_at, lost_at, repeated_at, dangles_at, or_none, dropped_where_read, refusals, meant_otherwise, findings, losses, repeated_names}
 
 -- ---- lists that are empty
 
-first_none : {A : Type 0} (xs ys : List A) → xs ++ ys ≡ [] → xs ≡ []
+pub first_none : {A : Type 0} (xs ys : List A) → xs ++ ys ≡ [] → xs ≡ []
 first_none [] ys e = refl
 first_none (x ∷ xs) ys e = cc
 
-second_none : {A : Type 0} (xs ys : List A) → xs ++ ys ≡ [] → ys ≡ []
+pub second_none : {A : Type 0} (xs ys : List A) → xs ++ ys ≡ [] → ys ≡ []
 second_none [] ys e = e
 second_none (x ∷ xs) ys e = cc
 
-map_none : {A B : Type 0} (f : A → B) (xs : List A) → map f xs ≡ [] → xs ≡ []
+pub map_none : {A B : Type 0} (f : A → B) (xs : List A) → map f xs ≡ [] → xs ≡ []
 map_none f [] e = refl
 map_none f (x ∷ xs) e = cc
 
@@ -73,16 +75,25 @@ dropped_is : (k : Kind) (t : Data) (d : Doc) → ReadsAs k t d → dropped_where
 dropped_is k t d is =
     ap (λ b. cond b [] (or_none (dropped_by k t))) is.0 ∙ ap (λ o. or_none (option_map (λ x. dropped t (write x)) o)) is.1
 
+-- a document of whose tree nothing is in doubt and nothing is dropped
+back : (k : Kind) (t : Data) (d : Doc) → ReadsAs k t d → without_fractions (doubts k t) ≡ [] → dropped_where_read k t ≡ [] → ComesBack k t d
+back k t d reads clear none = record {
+  reads = reads;
+  well_formed = undoubted_well_formed k t d (sym (doubts_kept k t reads.0) ∙ clear) reads;
+  kept = (nothing_dropped t (write d)).0 (sym (dropped_is k t d reads) ∙ none);
+  nothing_besides = written_within k t d reads.1;
+}
+
 pub comes_back : (k : Kind) (t : Data) (d : Doc) → findings k t ≡ [] → read k t ≡ Some d → ComesBack k t d
-comes_back k t d none is =
-    let plain = (fits k t none).1 in
-    let reads : ReadsAs k t d = (plain, is) in
-    record {
-      reads = reads;
-      well_formed = undoubted_well_formed k t d (sym (doubts_kept k t plain) ∙ none_doubted k t none) reads;
-      kept = (nothing_dropped t (write d)).0 (sym (dropped_is k t d reads) ∙ none_lost k t none);
-      nothing_besides = written_within k t d is;
-    }
+comes_back k t d none is = back k t d ((fits k t none).1, is) (none_doubted k t none) (none_lost k t none)
+
+-- a document that loses nothing
+pub undoubted_where_unlost : (k : Kind) (t : Data) → losses k t ≡ [] → without_fractions (doubts k t) ≡ []
+undoubted_where_unlost k t none = map_none doubtful_at (without_fractions (doubts k t)) (first_none (meant_otherwise k t) (map lost_at (dropped_where_read k t)) none)
+
+pub unlost_comes_back : (k : Kind) (t : Data) (d : Doc) → ReadsAs k t d → losses k t ≡ [] → ComesBack k t d
+unlost_comes_back k t d reads none =
+    back k t d reads (undoubted_where_unlost k t none) (map_none lost_at (dropped_where_read k t) (second_none (meant_otherwise k t) (map lost_at (dropped_where_read k t)) none))
 
 -- a tree in which nothing is found is a document
 pub some_comes_back : (k : Kind) (t : Data) → findings k t ≡ [] → (d : Doc) × ComesBack k t d
@@ -91,3 +102,8 @@ some_comes_back k t none = let there = some_there (read k t) (fits k t none).0 i
 -- and reads back from the written tree, where it is of the kind
 pub reads_again : (k : Kind) (t : Data) (d : Doc) → IsOf d (value_of k) → ComesBack k t d → ReadsAs k (write d) d
 reads_again k t d of_kind h = (write_plain d h.well_formed.0, reads_back d k of_kind h.well_formed.1 ∙ ap Some (read_normal k t d h.reads.1))
+
+-- ---- a text with its tree
+
+pub none_repeated : (text : List ℕ) (rest : List Finding) → repeated_names text ++ rest ≡ [] → places_in (document text) ≡ []
+none_repeated text rest none = map_none repeated_at (places_in (document text)) (first_none (repeated_names text) rest none)

@@ -1,5 +1,11 @@
 pub mod Said
 pub mod Texts
 pub mod Fitting
+pub mod Joined
 pub mod OnLines
 pub mod ComesBack
+pub mod InText
+pub mod Standing
+pub mod TakenIn
+pub mod MergedWhole
+pub mod NestedWhole

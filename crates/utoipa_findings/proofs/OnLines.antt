@@ -1,5 +1,5 @@
 -- What is told is lines.
-use Rattle.std.proofs.Common.{◌≡◌, ℕ, List, [], ◌∷◌, ◌++◌, if◌then◌else◌, Option, Some, None, codes, decimal, length, refl, sym, subst}
+use Rattle.std.proofs.Common.{ℕ, List, [], ◌∷◌, ◌++◌, Option, Some, None, codes, decimal, length, refl, sym, subst}
 use Rattle.std.specs.List.{flat_map}
 use Rattle.std.specs.Str.{is_utf8}
 use Rattle.std.proofs.lemmas.Bool.{cond_both}
@@ -14,8 +14,8 @@ use Rattle.utoipa_check.proofs.ShownPointers.{pointer_line}
 use Rattle.utoipa_check.proofs.ShownTexts.{printed, nothing_is_one_line, one_line_append, shown_line}
 use Rattle.utoipa_check.proofs.WholeLines.{IsEnded, decimal_line, end_of, printed_end, before_end, lines_of_each, one_line_told}
 use Rattle.utoipa_conflicts.specs.Conflicts.{Conflict}
-use Rattle.utoipa_findings.specs.Findings.{What, unfit, doubtful, lost, dangles, Finding}
-use Rattle.utoipa_findings.specs.Lines.{loss_text, what_text, place_text, finding_text, finding_line, lines_of, name_at, drop_line, conflict_line}
+use Rattle.utoipa_findings.specs.Findings.{What, unfit, doubtful, lost, dangles, repeated, Finding}
+use Rattle.utoipa_findings.specs.Lines.{loss_text, what_text, place_text, finding_text, finding_line, lines_of, name_at, drop_line, conflict_line, nested_line}
 use Rattle.utoipa_findings.specs.Sources.{is_like_yaml, text_line, yaml_said, no_json, no_tree, IsTreelessLine}
 use Rattle.utoipa_findings.specs.Told.{IsTold, lines_due}
 
@@ -31,6 +31,7 @@ what_line (unfit c) = cause_line c
 what_line (doubtful c) = behind (codes "this is read otherwise than it was meant: ") (cause_text c) refl (cause_line c)
 what_line (lost l) = loss_line l
 what_line (dangles text) = among (codes "the reference `") (shown text) (codes "` leads to nothing") refl (shown_line text) refl
+what_line repeated = printed (what_text repeated) refl
 
 place_line : (ss : List Step) → IsOneLine (place_text ss)
 place_line [] = nothing_is_one_line
@@ -73,15 +74,22 @@ pub told_are_lines : (f : Data → List Finding) (name bytes : List ℕ) (tree :
 told_are_lines f name bytes None told h = treeless_is_a_line name bytes told h
 told_are_lines f name bytes (Some t) told h = subst (AreLines (length (f t))) (sym h) (findings_are_lines name (f t))
 
--- ---- what merging drops
+-- ---- what merging and nesting drop
 
-drop_ended : (dropped : List ℕ) (p : List Step) (kept : List ℕ) → IsEnded (drop_line dropped p kept)
-drop_ended dropped p kept =
+drop_ended : (doing dropped : List ℕ) (p : List Step) (kept : List ℕ) → IsOneLine doing → IsEnded (drop_line doing dropped p kept)
+drop_ended doing dropped p kept h =
     before_end (shown dropped) _ (shown_line dropped)
     (before_end (codes ": ") _ (printed (codes ": ") refl)
     (before_end (shown_pointer p) _ (pointer_line p)
-    (before_end (codes ": merging drops this, since ") _ (printed (codes ": merging drops this, since ") refl)
-    (before_end (shown kept) (codes " decides here\n") (shown_line kept) (printed_end (codes " decides here") refl)))))
+    (before_end (codes ": ") _ (printed (codes ": ") refl)
+    (before_end doing _ h
+    (before_end (codes " drops this, since ") _ (printed (codes " drops this, since ") refl)
+    (before_end (shown kept) (codes " decides here\n") (shown_line kept) (printed_end (codes " decides here") refl)))))))
 
 pub conflicts_are_lines : (names : List (List ℕ)) (cs : List Conflict) → AreLines (length cs) (flat_map (conflict_line names) cs)
-conflicts_are_lines names cs = lines_of_each (conflict_line names) (λ c. drop_ended (name_at names c.2) c.0 (name_at names c.1)) cs
+conflicts_are_lines names cs =
+    lines_of_each (conflict_line names) (λ c. drop_ended (codes "merging") (name_at names c.2) c.0 (name_at names c.1) (printed (codes "merging") refl)) cs
+
+pub nested_are_lines : (names : List (List ℕ)) (cs : List Conflict) → AreLines (length cs) (flat_map (nested_line names) cs)
+nested_are_lines names cs =
+    lines_of_each (nested_line names) (λ c. drop_ended (codes "nesting") (name_at names c.2) c.0 (name_at names c.1) (printed (codes "nesting") refl)) cs

@@ -1,6 +1,7 @@
 -- What is found in a tree that is to be a document of a kind.
 use Rattle.std.specs.Prelude.{ℕ, List, [], ◌∷◌, ◌++◌, map, if◌then◌else◌, Option, None, Some}
 use Rattle.std.specs.List.{flat_map}
+use Rattle.json.specs.Json.{document}
 use Rattle.serde_json.specs.Data.{Data}
 use Rattle.serde_json.specs.Written.{has_float}
 use Rattle.utoipa_base.specs.Kinds.{Kind}
@@ -9,6 +10,7 @@ use Rattle.utoipa_check.specs.Dropped.{Loss, Dropped, dropped_by}
 use Rattle.utoipa_check.specs.Misfits.{Step, Cause, Misfit, without_fractions, misfits_and_fractions}
 use Rattle.utoipa_check.specs.References.{Reference, references}
 use Rattle.utoipa_check.specs.Referring.{State, dangling, resolved, external}
+use Rattle.utoipa_duplicates.specs.Duplicates.{places_in}
 
 -- what is found at a place
 pub data What : Type 0 where
@@ -20,6 +22,8 @@ pub data What : Type 0 where
   lost : Loss → What
   -- the text there is a reference that leads to nothing
   dangles : List ℕ → What
+  -- the name there stands again in its object, so the member that had it before is lost
+  repeated : What
 
 -- a place, and what is found there
 abbrev pub Finding : Type 0
@@ -33,6 +37,9 @@ doubtful_at m = (m.0, doubtful m.1)
 
 abbrev pub lost_at : Dropped → Finding
 lost_at p = (p.0, lost p.1)
+
+abbrev pub repeated_at : List Step → Finding
+repeated_at p = (p, repeated)
 
 abbrev pub if_dangling : State → Finding → List Finding
 if_dangling dangling f = f ∷ []
@@ -63,3 +70,23 @@ meant_otherwise k t = map doubtful_at (without_fractions (doubts k t))
 -- nothing. Each in the order of the member tables, but what is dropped in that of the tree.
 abbrev pub findings : Kind → Data → List Finding
 findings k t = ((refusals k t ++ meant_otherwise k t) ++ map lost_at (dropped_where_read k t)) ++ flat_map dangles_at (references k t)
+
+-- ---- what is lost
+
+-- what a document loses of its tree when it is written again: what is read otherwise than it was meant, and what is dropped
+abbrev pub losses : Kind → Data → List Finding
+losses k t = meant_otherwise k t ++ map lost_at (dropped_where_read k t)
+
+-- The names of a text that stand again in their objects (RFC 8259, section 4), in the order of the text. A tree keeps the last member of a name.
+abbrev pub repeated_names : (text : List ℕ) → List Finding
+repeated_names text = map repeated_at (places_in (document text))
+
+-- ---- a text with its tree
+
+-- all that is found in a text that has this tree
+abbrev pub text_findings : Kind → (text : List ℕ) → Data → List Finding
+text_findings k text t = repeated_names text ++ findings k t
+
+-- what is lost of a text that has this tree, when its document is written again
+abbrev pub text_losses : Kind → (text : List ℕ) → Data → List Finding
+text_losses k text t = repeated_names text ++ losses k t

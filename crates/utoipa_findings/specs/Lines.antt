@@ -7,7 +7,7 @@ use Rattle.utoipa_check.specs.Pointers.{shown_pointer}
 use Rattle.utoipa_check.specs.Said.{cause_text}
 use Rattle.utoipa_check.specs.Shown.{shown}
 use Rattle.utoipa_conflicts.specs.Conflicts.{Conflict}
-use Rattle.utoipa_findings.specs.Findings.{What, unfit, doubtful, lost, dangles, Finding}
+use Rattle.utoipa_findings.specs.Findings.{What, unfit, doubtful, lost, dangles, repeated, Finding}
 
 abbrev pub loss_text : Loss → List ℕ
 loss_text absent = codes "this is dropped"
@@ -19,6 +19,7 @@ what_text (unfit c) = cause_text c
 what_text (doubtful c) = codes "this is read otherwise than it was meant: " ++ cause_text c
 what_text (lost l) = loss_text l
 what_text (dangles text) = codes "the reference `" ++ shown text ++ codes "` leads to nothing"
+what_text repeated = codes "this name stands again, and what stood here before is dropped"
 
 -- the JSON Pointer of a place, before what is found there; the root needs none
 abbrev pub place_text : List Step → List ℕ
@@ -45,9 +46,19 @@ lines_of name fs = flat_map (finding_line name) fs
 abbrev pub name_at : List (List ℕ) → ℕ → List ℕ
 name_at names n = slice_index_or names n []
 
--- a value that merging drops: the file that has it, its place, and the file that decides there
-abbrev pub drop_line : (dropped : List ℕ) → List Step → (kept : List ℕ) → List ℕ
-drop_line dropped p kept = shown dropped ++ (codes ": " ++ (shown_pointer p ++ (codes ": merging drops this, since " ++ (shown kept ++ codes " decides here\n"))))
+-- a value that is dropped: the file that has it, its place, what is being done, and the file that decides there
+abbrev pub drop_line : (doing dropped : List ℕ) → List Step → (kept : List ℕ) → List ℕ
+drop_line doing dropped p kept =
+    shown dropped ++ (codes ": " ++ (shown_pointer p ++ (codes ": " ++ (doing ++ (codes " drops this, since " ++ (shown kept ++ codes " decides here\n"))))))
 
+-- what is dropped, by the names of the files
+abbrev pub dropped_line : (doing : List ℕ) (names : List (List ℕ)) → Conflict → List ℕ
+dropped_line doing names c = drop_line doing (name_at names c.2) c.0 (name_at names c.1)
+
+-- what merging drops
 abbrev pub conflict_line : (names : List (List ℕ)) → Conflict → List ℕ
-conflict_line names c = drop_line (name_at names c.2) c.0 (name_at names c.1)
+conflict_line names c = dropped_line (codes "merging") names c
+
+-- what nesting drops
+abbrev pub nested_line : (names : List (List ℕ)) → Conflict → List ℕ
+nested_line names c = dropped_line (codes "nesting") names c

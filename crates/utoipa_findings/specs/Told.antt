@@ -1,10 +1,10 @@
 -- What is told of a file.
-use Rattle.std.specs.Prelude.{◌≡◌, ℕ, List, Option, None, Some, length, string_bytes}
+use Rattle.std.specs.Prelude.{◌≡◌, ℕ, List, [], Option, None, Some, length, string_bytes}
 use Rattle.serde_json.specs.Data.{Data}
 use Rattle.utoipa_base.specs.Docs.{Doc}
 use Rattle.utoipa_base.specs.Kinds.{Kind}
 use Rattle.utoipa_base.specs.WellFormed.{ReadsAs}
-use Rattle.utoipa_findings.specs.Findings.{Finding, refusals, findings}
+use Rattle.utoipa_findings.specs.Findings.{Finding, refusals, text_findings, text_losses}
 use Rattle.utoipa_findings.specs.Lines.{lines_of}
 use Rattle.utoipa_findings.specs.Sources.{IsSourceOf, IsTreelessLine, tree_of}
 use Rattle.utoipa_findings.specs.declared.refusal.Refusal.{Refusal}
@@ -31,7 +31,16 @@ lines_due f (Some t) = length (f t)
 
 -- what is found in a file
 abbrev pub IsChecked : Kind → (name bytes told : List ℕ) → Type 0
-IsChecked k name bytes told = IsTold (findings k) name bytes (tree_of bytes) told
+IsChecked k name bytes told = IsTold (text_findings k bytes) name bytes (tree_of bytes) told
+
+-- the lines of what f lists of a tree, none where there is no tree
+abbrev pub tree_lines : (f : Data → List Finding) → (name : List ℕ) → Option Data → List ℕ
+tree_lines f name None = []
+tree_lines f name (Some t) = lines_of name (f t)
+
+-- the lines of what a file loses when its document is written again
+abbrev pub loss_lines : Kind → (name bytes : List ℕ) → List ℕ
+loss_lines k name bytes = tree_lines (text_losses k bytes) name (tree_of bytes)
 
 -- the tree is no document of the kind, and the lines of its file tell why
 pub record IsUnfit (k : Kind) (name : List ℕ) (t : Data) (told : List ℕ) : Type 0 where

@@ -5,7 +5,7 @@ use Rattle.utoipa_check.specs.Views.{cause_of, outwards}
 use Rattle.utoipa_findings.specs.Findings as specs
 use Rattle.utoipa_findings.specs.declared.finding.Finding.{Finding}
 use Rattle.utoipa_findings.specs.declared.finding.What.{What}
-use Rattle.utoipa_findings.specs.declared.finding.What.TheVariants.{Unfit, Doubtful, Lost, Dangles}
+use Rattle.utoipa_findings.specs.declared.finding.What.TheVariants.{Unfit, Doubtful, Lost, Dangles, Repeated}
 use Rattle.utoipa_findings.specs.declared.source.Source.{Source}
 
 abbrev pub what_of : What → specs.What
@@ -13,6 +13,7 @@ what_of (Unfit c) = specs.unfit (cause_of c)
 what_of (Doubtful c) = specs.doubtful (cause_of c)
 what_of (Lost l) = specs.lost (loss_of l)
 what_of (Dangles text) = specs.dangles text.now
+what_of Repeated = specs.repeated
 
 abbrev pub finding_of : Finding → specs.Finding
 finding_of f = (outwards f.pointer.steps.items [], what_of f.what)

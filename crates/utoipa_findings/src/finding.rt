@@ -18,6 +18,8 @@ pub enum What<'a> {
     Lost(Loss),
     /// The text there is a reference that leads to nothing.
     Dangles(&'a str),
+    /// The name there stands again in its object, so the member that had it before is lost.
+    Repeated,
 }
 
 /// A place, and what is found there.
@@ -62,6 +64,10 @@ impl fmt::Display for What<'_> {
                 let text = Shown(*text);
                 write!(f, "the reference `{text}` leads to nothing")
             }
+            What::Repeated => write!(
+                f,
+                "this name stands again, and what stood here before is dropped"
+            ),
         }
     }
 }

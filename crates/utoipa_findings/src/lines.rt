@@ -16,6 +16,21 @@ fn put_line(name: &str, finding: &Finding<'_>, lines: &mut String) -> Result<(),
     write!(lines, "{name}: {finding}\n")
 }
 
+/// Adds the lines of what is found in a file of this name. Fails where memory runs out.
+pub(crate) fn put_lines(
+    name: &str,
+    found: &[Finding<'_>],
+    lines: &mut String,
+) -> Result<(), AllocError>
+    ensures { OnOk result
+        (string_bytes lines.new ≡ string_bytes lines.old ++ lines_text name.now (all_findings found.now)) }
+{
+    for finding in found {
+        put_line(name, finding, lines)?;
+    }
+    Ok(())
+}
+
 /// The lines of what is found in a file of this name. Fails where memory runs out.
 pub(crate) fn lines_of(
     alloc: Global,
@@ -25,8 +40,6 @@ pub(crate) fn lines_of(
     ensures { IfOk result (λ lines. string_bytes lines ≡ lines_text name.now (all_findings found.now)) }
 {
     let mut lines = String::new(alloc);
-    for finding in found {
-        put_line(name, finding, &mut lines)?;
-    }
+    put_lines(name, found, &mut lines)?;
     Ok(lines)
 }

@@ -1,20 +1,21 @@
 //! All that is found in a file.
-ghost use Rattle.std.specs.Prelude.{◌≡◌, ◌++◌, IfOk, OnOk, map, string_bytes};
+ghost use Rattle.std.specs.Prelude.{◌≡◌, ◌++◌, IfOk, IfErr, OnOk, map, string_bytes};
 ghost use Rattle.std.specs.List.{flat_map};
 ghost use Rattle.serde_json.specs.View.{view};
 ghost use Rattle.utoipa_check.specs.DroppedViews.{all_dropped};
 ghost use Rattle.utoipa_check.specs.References.{references};
 ghost use Rattle.utoipa_findings.specs.Findings as specs;
 ghost use Rattle.utoipa_findings.specs.Lines.{lines_of as lines_text};
-ghost use Rattle.utoipa_findings.specs.Told.{IsChecked};
+ghost use Rattle.utoipa_findings.specs.Told.{IsChecked, IsTreeless, Tells};
 ghost use Rattle.utoipa_findings.specs.Views.{all_findings};
 ghost use Rattle.utoipa_tables.specs.Tables.{kind_of};
 
 use crate::finding::{Finding, What};
-use crate::lines::lines_of;
+use crate::lines::put_lines;
 use crate::refusal::Refusal;
+use crate::repeated::repeated_lines;
 use crate::source::Source;
-use crate::text::tree_of;
+use crate::text::{text_of, tree_of_text};
 use serde_json::Value;
 use std::alloc::{AllocError, Global};
 use utoipa_base::{ReadFault, Tree};
@@ -42,7 +43,7 @@ pub(crate) fn put_refusals<'a>(
 }
 
 /// Adds what is read otherwise than it was meant, but for fractions, which are told already. Fails where memory runs out.
-fn put_doubts<'a>(
+pub(crate) fn put_doubts<'a>(
     alloc: Global,
     kind: Kind,
     tree: &'a Value,
@@ -76,7 +77,7 @@ fn dropped_where_read<'t, T: Tree>(
 }
 
 /// Adds what is dropped. Fails where memory runs out.
-fn put_dropped<'a, T: Tree>(
+pub(crate) fn put_dropped<'a, T: Tree>(
     alloc: Global,
     tree: &'a Value,
     found: &mut Vec<Finding<'a>>,
@@ -133,30 +134,46 @@ pub fn findings<'a, T: Tree>(
     Ok(found)
 }
 
-/// The lines of what is found in the tree of a file. Fails where memory runs out.
-fn tree_lines<T: Tree>(
+/// The lines of what is found in a text, which has this tree. Fails where memory runs out.
+fn text_lines<T: Tree>(
     alloc: Global,
     kind: Kind,
     name: &str,
+    text: &str,
     tree: &Value,
 ) -> Result<String, AllocError>
     requires { kind_of kind ≡ T.kind }
     ensures { IfOk result
-        (λ lines. string_bytes lines ≡ lines_text name.now (specs.findings (kind_of kind) (view tree.now))) }
+        (λ lines. string_bytes lines
+        ≡ lines_text name.now (specs.text_findings (kind_of kind) text.now (view tree.now))) }
 {
+    let mut lines = repeated_lines(alloc, name, text)?;
     let found = findings::<T>(alloc, kind, tree)?;
-    lines_of(alloc, name, &found)
+    put_lines(name, &found, &mut lines)?;
+    Ok(lines)
 }
 
-/// The lines of what is found in a file that is to be a document of a type, or the line that tells that it is no JSON. The kind is that of the
-/// type. Fails where memory runs out.
+/// The lines of what is found in a file. Fails where it has no tree, with the line that tells so, and where memory runs out.
+fn file_lines<T: Tree>(alloc: Global, kind: Kind, source: Source<'_>) -> Result<String, Refusal>
+    requires { kind_of kind ≡ T.kind }
+    ensures ok { IfOk result
+        (λ lines. IsChecked (kind_of kind) source.entry.name.now source.entry.bytes.now (string_bytes lines)) }
+    ensures err { IfErr result (Tells (IsTreeless source.entry.name.now source.entry.bytes.now)) }
+{
+    let text = text_of(alloc, source)?;
+    let tree = tree_of_text(alloc, source.name, text)?;
+    Ok(text_lines::<T>(alloc, kind, source.name, text, &tree)?)
+}
+
+/// The lines of what is found in a file that is to be a document of a type, the names first that stand again in their objects; or the line that
+/// tells that it is no JSON. The kind is that of the type. Fails where memory runs out.
 pub fn check<T: Tree>(alloc: Global, kind: Kind, source: Source<'_>) -> Result<String, AllocError>
     requires { kind_of kind ≡ T.kind }
     ensures { IfOk result
         (λ lines. IsChecked (kind_of kind) source.entry.name.now source.entry.bytes.now (string_bytes lines)) }
 {
-    match tree_of(alloc, source) {
-        Ok(tree) => tree_lines::<T>(alloc, kind, source.name, &tree),
+    match file_lines::<T>(alloc, kind, source) {
+        Ok(lines) => Ok(lines),
         Err(Refusal::Told(line)) => Ok(line),
         Err(Refusal::Memory) => Err(AllocError),
     }

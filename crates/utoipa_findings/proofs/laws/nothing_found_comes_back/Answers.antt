@@ -1,9 +1,16 @@
 use Rattle.serde_json.specs.View.{view}
 use Rattle.utoipa_findings.proofs.ComesBack.{comes_back, some_comes_back, reads_again}
+use Rattle.utoipa_findings.proofs.InText.{text_comes_back, unlost_text}
 use Rattle.utoipa_findings.proofs.laws.nothing_found_comes_back.Goals as goal
 
 pub returns-clause-document : goal.returns-clause-document
 returns-clause-document g c k = some_comes_back k (view c.args.tree.now)
+
+pub returns-clause-text : goal.returns-clause-text
+returns-clause-text g c = text_comes_back
+
+pub returns-clause-unlost : goal.returns-clause-unlost
+returns-clause-unlost g c = unlost_text
 
 pub returns-clause-value : goal.returns-clause-value
 returns-clause-value g c = comes_back g.T.Documented.kind (view c.args.tree.now) (g.T.Documented.doc c.args.value.now)
