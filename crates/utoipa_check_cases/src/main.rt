@@ -13,7 +13,10 @@
 //! | `located TYPE` | a JSON text | `read` where the text is a document of the type, else the fault with its place |
 //! | `conflicts` | a JSON list of the trees of documents | what is dropped where they are merged |
 //! | `nested_conflicts` | a JSON list: the tree of a document, that of one that is nested into it, and a list of the answers to the nested paths | what is dropped |
+//! | `changed_meanings` | a JSON list: a list of the trees of documents, and the tree that they were merged into | what is changed of the meaning of operations |
 //! | `between` | two JSON texts, a tab between: a tree, and one that was written for it | the places of the first that the second lacks or has another value at, each with what has become of it |
+//! | `found TYPE` | a text | what is found in it as the file `f`, ` ; ` between two lines; `none` where nothing is |
+//! | `lost TYPE` | a text | what the file `f` loses when its document is written again, or why it is no document |
 //! | `dropped TYPE` | a JSON text | the same of its tree and of what the tree is written as when it was read as the type, or the refusal |
 #![tactic(auto)]
 
@@ -21,12 +24,16 @@ mod conflicts;
 mod dropped;
 mod kinds;
 mod located;
+mod lost;
+mod meaning;
 mod told;
 
 use crate::conflicts::{conflicts_of_text, nested_conflicts_of_text};
 use crate::dropped::{between, dropped_of_text};
 use crate::kinds::kind_named;
 use crate::located::located_of_text;
+use crate::lost::{found_in_text, lost_of_text};
+use crate::meaning::changed_meanings_of_text;
 use crate::told::told;
 use serde_json::Value;
 use std::alloc::{AllocError, Global};
@@ -56,7 +63,10 @@ fn answer_of(alloc: Global, line: &str) -> Result<String, AllocError> {
         "dropped" => dropped_of_text(alloc, call.subject(), call.given),
         "conflicts" => conflicts_of_text(alloc, call.given),
         "nested_conflicts" => nested_conflicts_of_text(alloc, call.given),
+        "changed_meanings" => changed_meanings_of_text(alloc, call.given),
         "located" => located_of_text(alloc, call.subject(), call.given),
+        "found" => found_in_text(alloc, call.subject(), call.given),
+        "lost" => lost_of_text(alloc, call.subject(), call.given),
         _ => answer_of_kind(alloc, &call),
     }
 }

@@ -1,0 +1,7 @@
+pub mod Meaning
+pub mod Operations
+pub mod Changes
+pub mod Unchanged
+pub mod Texts
+pub mod Views
+pub mod Examples
