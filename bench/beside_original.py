@@ -27,7 +27,7 @@ ROOT = os.path.dirname(os.path.dirname(os.path.abspath(__file__)))
 sys.path[:0] = [os.path.join(ROOT, "tools")]
 
 import beside_original as comparison
-from documents import write_inputs
+from services import write_inputs
 from hostile import names_of_one_hash
 from merging import service_document
 from reading import ORDINARY, TRIED, write_schema

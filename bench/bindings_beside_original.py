@@ -28,7 +28,7 @@ SOURCES = os.path.join(ROOT, "bench", "bindings_beside_original")
 sys.path[:0] = [os.path.join(ROOT, "tools")]
 
 import beside_original as comparison
-from documents import write_inputs
+from services import write_inputs
 from merging import service_document
 
 COLUMNS = ["Input", "MB", "library (ms)", "crate, direct (ms)", "time to it", "by the turns", "crate, by a tree (ms)", "time to it", "by the turns"]

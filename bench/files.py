@@ -4,7 +4,7 @@
 usage: bench/files.py [DIVISOR]      after ./build; with a number, as 10, the script is tried with so many times fewer documents, and smaller ones
 
 The documents that are merged are those of bench/merging.py, each in a file of its own; beside `openapi merge`, which tells what is dropped too,
-`utoipa_doc merge` reads a list of the same. The one document of the second table is that of bench/documents.py, in a file. Each time is that
+`utoipa_doc merge` reads a list of the same. The one document of the second table is that of bench/services.py, in a file. Each time is that
 of the processor for a whole run, the least of three, by turns; the memory is the greatest that a run held.
 """
 import json
@@ -12,7 +12,7 @@ import os
 import sys
 import tempfile
 
-from documents import write_inputs
+from services import write_inputs
 from merging import service_document
 from runs import best, in_another_process, program, stop_if_lacking
 

@@ -3,7 +3,7 @@
 
 usage: bench/misfits.py [MEGABYTES..]      1 10 where none is given; after ./check, which builds the programs that it runs
 
-The document is that of bench/documents.py, with one more tag at its end, whose name is no text. `misfits`, `doubts` and `references` are calls of
+The document is that of bench/services.py, with one more tag at its end, whose name is no text. `misfits`, `doubts` and `references` are calls of
 utoipa_check_cases, which parses the text, looks through the tree and prints the list; beside them the command `utoipa_doc document`
 reads and prints the document without that tag, and refuses it with it. The second table is of a schema in the `contentSchema` of schemas,
 as many levels deep, 400 times in a run. Each time is that of the processor for a whole run, the least of three, by turns.
@@ -12,7 +12,7 @@ import os
 import sys
 import tempfile
 
-from documents import write_inputs
+from services import write_inputs
 from runs import best, in_another_process, program, stop_if_lacking
 
 COMMAND, CASES = program("utoipa_doc"), program("utoipa_check_cases")

@@ -1,4 +1,5 @@
 """What the documents of services are made of, for the benchmarks: always the same, since each service's choices begin with a fixed number."""
+import json
 import random
 
 START = 20_260
@@ -69,3 +70,24 @@ class Service:
         methods = self.chance.sample(METHODS, self.chance.randint(1, 3))
         item = {method: self.operation(name, method) for method in methods}
         return {**item, "parameters": [self.parameter("id", "path")], "x-owner": self.chance.choice(WORDS)}
+
+
+def write_inputs(path, line, megabytes):
+    """A document with as many services as its size allows, and the line of the case that reads it."""
+    paths, schemas, tags, size, number = [], [], [], 0, 0
+    while size < megabytes * 1_000_000:
+        service = Service(number)
+        for at in range(8):
+            name = "resource%d" % at
+            paths.append('"/service%d/%s/{id}":%s' % (number, name, json.dumps(service.path_item(name))))
+        for at in range(12):
+            schemas.append('"Service%dType%d":%s' % (number, at, json.dumps(service.object(3))))
+        tags.append('{"name":"service%d","description":"%s"}' % (number, service.text(4, 12)))
+        size += sum(len(it) + 1 for it in [*paths[-8:], *schemas[-12:], tags[-1]])
+        number += 1
+    parts = ",".join(paths), ",".join(schemas), ",".join(tags)
+    head = '{"openapi":"3.2.0","info":{"title":"Services","version":"1.0.0"},'
+    document = head + '"paths":{%s},"components":{"schemas":{%s}},"tags":[%s]}\n' % parts
+    for to, text in ((path, document), (line, "fits OpenApi\t" + document)):
+        with open(to, "w") as out:
+            out.write(text)
