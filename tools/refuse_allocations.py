@@ -123,6 +123,8 @@ CASES = [
     ("read ", 1, ["refused: memory", "no tree"]),
     # Composes a type over the schemas of a list.
     ("compose ", 2, ["refused: out of memory", "no list of schemas"]),
+    # Reads the tree as a type, and asks whether the value comes back.
+    ("comes-back ", 1, ["refused: memory", "no tree"]),
     # Puts schemas at the end of a list, and prints the second line where the list is then what it was.
     ("schemas ", 1, ["refused: memory", "refused: memory, and nothing has changed"]),
     # Change a value, and print the second line where the value's tree is what it was; where it is not, they print another one.
@@ -155,10 +157,16 @@ CASES = [
     ("doubts ", 2, ["no JSON"]),
     ("references ", 2, ["no JSON"]),
     ("conflicts\t", 10, ["no list"]),
+    ("nested_conflicts\t", 3, ["no JSON"]),
+    ("changed_meanings\t", 3, ["no JSON"]),
+    ("adaptations ", 1, ["no JSON"]),
+    ("adapted ", 1, ["no JSON"]),
     ("between\t", 6, ["no tree"]),
     ("dropped ", 3, ["refused: memory", "no tree"]),
-    # Reads a text, and tells where it is refused.
+    # Read a text, and tell where it is refused, what is found in it, and what it loses.
     ("located ", 3, ["out of memory"]),
+    ("found ", 2, []),
+    ("lost ", 2, []),
 ]
 
 # What a program of cases says on standard error, with status 1, where its own reading or writing of lines was refused memory.

@@ -1,6 +1,5 @@
 -- Where no object has a name twice, no name stands again.
-use Rattle.std.proofs.Common.{◌≡◌, ◌≢◌, ◌∙◌, refl, sym, ap, ℕ, suc, List, [], ◌∷◌, ◌++◌, map, Bool, true, false, ◌||◌, if◌then◌else◌, length, get_or, arith, ◌<◌, Option, None, Some}
-use Rattle.std.specs.Prelude.{IsSomeAnd}
+use Rattle.std.proofs.Common.{◌≡◌, ◌≢◌, ◌∙◌, refl, sym, ap, ℕ, suc, List, [], ◌∷◌, ◌++◌, map, Bool, true, false, ◌||◌, if◌then◌else◌, length, get_or, arith, ◌<◌, Option, Some}
 use Rattle.std.specs.List.{list_any}
 use Rattle.std.specs.Str.{bytes_eq}
 use Rattle.std.proofs.lemmas.Slice.Eq.{bytes_eq-Decides}
@@ -53,6 +52,5 @@ mutual
       ∙ ap (λ ps. behind (at_name name) ps ++ members_duplicates (name ∷ earlier) ms) (none_again j h.0)
       ∙ none_in_members (name ∷ earlier) ms (still_new name earlier (keys ms) apart new) (still_apart name (keys ms) apart) h.1
 
-pub none_in_text : (o : Option Json) → IsSomeAnd o HasUniqueKeys → places_in o ≡ []
-none_in_text None h = absurd h
-none_in_text (Some j) h = none_again j h
+pub none_in_value : (o : Option Json) (j : Json) → o ≡ Some j → HasUniqueKeys j → places_in o ≡ []
+none_in_value o j is unique = ap places_in is ∙ none_again j unique

@@ -11,7 +11,7 @@ ghost use Rattle.utoipa_check.specs.Views.{step_of};
 ghost use Rattle.utoipa_duplicates.specs.Duplicates as specs;
 ghost use Rattle.utoipa_duplicates.specs.Views.{AreNames, place_of, places_of};
 
-use json::{Error, Scratch, Tape, Value};
+use json::{Error, Scratch, Value};
 use std::alloc::{AllocError, Global};
 use std::collections::BTreeSet;
 use utoipa_check::{Pointer, Step};
@@ -116,17 +116,17 @@ fn places_in_members<'v, 'a>(
     Ok(found)
 }
 
-/// Whether a name may stand again in an object of a text: where it is false, none does. It is asked before the text is read as values, which takes
-/// more. Fails where memory runs out.
+/// Whether a name may stand again in an object of a text: where it is false, none does. It is asked before the places are looked for,
+/// which takes more. Fails where memory runs out.
 pub fn may_have_duplicates(alloc: Global, text: &str) -> Result<bool, AllocError>
     ensures { IfOk result (λ may. may ≡ false → specs.places_in (document text.now) ≡ []) }
 {
     let mut scratch = Scratch::new(alloc);
-    match Tape::parse_strict(text, &mut scratch, Vec::new(alloc)) {
-        Ok(_tape) => Ok(false),
+    match Value::parse_strict(alloc, text, &mut scratch) {
+        Ok(_value) => Ok(false),
         Err(Error::Invalid) => Ok(false),
-        Err(Error::OutOfMemory) => Err(AllocError),
-        Err(Error::DuplicateKey | Error::TooLong) => Ok(true),
+        Err(Error::DuplicateKey) => Ok(true),
+        Err(_) => Err(AllocError),
     }
 }
 
