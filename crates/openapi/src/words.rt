@@ -4,7 +4,7 @@ use clap::{Arg, ArgAction, Command};
 use std::alloc::{AllocError, Global};
 
 const AFTER_HELP: &str =
-    "A file - is standard input. YAML is not read: yq -o json api.yaml | openapi check - (yq of mikefarah)\n\nThe status is 0 where all is well, 1 where something was found or could not be read or written, and 2 where the words are wrong.";
+    "A file - is standard input. YAML is not read: yq -o json api.yaml | openapi check - (yq of mikefarah)\n\nThe status is 0 where all is well, 1 where something was found, is lost under --strict, or could not be read or written, and 2 where the words are wrong.";
 
 /// The command with its subcommands. Fails where memory runs out.
 pub fn command<'a>(alloc: Global) -> Result<Command<'a>, AllocError> {
