@@ -9,12 +9,12 @@ use Rattle.std.proofs.lemmas.Cmp.{nat_list_cmp_total}
 use Rattle.std.proofs.lemmas.Map.Lookups.{exact_bytes}
 use Rattle.serde_json.specs.Data.{Num, Data, null, boolean, number, string, array, object, Items, no_items, item, Members, no_members, member, put}
 use Rattle.serde_json.specs.Read.{read as read_text}
-use Rattle.serde_json.specs.Find.{as_integer, as_u64, of_integer, get, get_member}
+use Rattle.serde_json.specs.Find.{as_integer, as_u64, get, get_member}
 use Rattle.utoipa_base.specs.Kinds.{ObjectType, reference_object, one_of_schema, all_of_schema, any_of_schema, array_schema, object_schema, type_word, known_format, Kind, text, flag, whole, numeral, any, word_of, version, list_of, map_of, ordered_map_of, entries_of, ref_or, named, schema, schema_type, schema_format, array_items, additional_properties, security_scheme, api_key, flows, Mark, required, optional, or_null, defaulted, Row}
 use Rattle.utoipa_base.specs.Words.{is_word}
 use Rattle.utoipa_base.specs.Version.{read_version}
 use Rattle.utoipa_base.specs.Choices.{chosen, scheme_types, flow_keys, api_key_places, schema_keywords}
-use Rattle.utoipa_base.specs.Docs.{Doc, text_doc, flag_doc, whole_doc, int_doc, uint_doc, tree_doc, word_doc, custom_doc, types_doc, any_value_doc, none_doc, some_doc, ref_doc, own_doc, schema_doc, tagged_doc, flow_doc, list_doc, map_doc, ordered_map_doc, entries_doc, table_doc, Docs, no_docs, doc, Entries, no_entries, entry}
+use Rattle.utoipa_base.specs.Docs.{Doc, whole_doc, int_doc, uint_doc, word_doc, types_doc, none_doc, some_doc, ref_doc, own_doc, schema_doc, tagged_doc, flow_doc, list_doc, map_doc, ordered_map_doc, entries_doc, table_doc, Docs, no_docs, doc, Entries, no_entries, entry}
 use Rattle.utoipa_base.specs.Tables.{table, has_extensions}
 use Rattle.utoipa_base.specs.Extensions.{is_extension, extension_members, extensions_of, some_if_any, members_or_none}
 use Rattle.utoipa_base.specs.Reading.{both, both_entries, or_else, only_if, Part, part_is_null, part_reads, Parts, part_name, named_part, part, entry_parts, empty_doc, fits, read_rows, read_table, read_items, read_entries, is_named, read_schema, read_ref_or, text_at, read_alternative, read_tagged, read_api_key, read_scheme, first_that_fits, read_flow, read_flows, read_null, read_boolean, numeral_doc, read_number, read_word, read_format, read_string, read_array, read_object, reader, item_readers, parts, read}
@@ -22,7 +22,7 @@ use Rattle.utoipa_base.specs.Writing.{write, write_items, write_entries, put_wri
 use Rattle.utoipa_base.specs.ByName.{put_entry, put_entries, by_name}
 use Rattle.utoipa_base.proofs.Results.{if_is, if_map, if_made, if_then, if_else, if_only, by_order}
 use Rattle.utoipa_check.specs.Places.{members_at}
-use Rattle.utoipa_conflicts.specs.Holders.{AreApart, EachMember, IsApart, AreComponentsApart, IsMemberApart, IsItemApart, ArePathsApart, IsApartWithin, IsNamedOnce}
+use Rattle.utoipa_conflicts.specs.Holders.{AreApart, EachMember, IsApart, AreComponentsApart, IsMemberApart, IsItemApart, ArePathsApart, IsNamedOnce}
 use Rattle.utoipa_merging.specs.Merged.{Ascends, names_in}
 use Rattle.utoipa_merging.specs.Sorted.{IsSorted, AreItemsSorted, AreMembersSorted}
 use Rattle.utoipa_merging.proofs.SortedTexts.{sorted_put, text_sorted}
@@ -525,10 +525,13 @@ item_apart path x h = (apart x h, each IsMemberApart (λ name y s is. apart y s)
 
 -- in a sorted tree each name stands once
 pub once_where_sorted : (t : Data) → IsSorted t → IsNamedOnce t
-once_where_sorted t h =
-    (apart t h,
-    (if_sorted AreComponentsApart (λ x s. (apart x s, each IsApart (λ name y r. apart y r) x s)) (get (codes "components") t) (got_sorted (codes "components") t h),
-    if_sorted ArePathsApart (λ x s. (apart x s, each IsItemApart item_apart x s)) (get (codes "paths") t) (got_sorted (codes "paths") t h)))
+once_where_sorted t h = (
+  apart t h,
+  (
+    if_sorted AreComponentsApart (λ x s. (apart x s, each IsApart (λ name y r. apart y r) x s)) (get (codes "components") t) (got_sorted (codes "components") t h),
+    if_sorted ArePathsApart (λ x s. (apart x s, each IsItemApart item_apart x s)) (get (codes "paths") t) (got_sorted (codes "paths") t h),
+  ),
+)
 
 pub written_once : (k : Kind) (t : Data) (d : Doc) → IsSorted t → read k t ≡ Some d → IsNamedOnce (write d)
 written_once k t d h e = once_where_sorted (write d) (written_sorted k t d h e)

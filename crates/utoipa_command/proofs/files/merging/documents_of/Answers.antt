@@ -21,9 +21,10 @@ loop-source-preserved c =
           let refused : string_bytes c.match-document.refused ≡ so_far = ap string_bytes w.refused-is in
           record {
             kept =
-                λ none. let k = c.loop-source.invariant.kept (sym refused ∙ none) in
-                (sources_put openapi_doc c.loop-source.documents.items _ w.in-Ok.document sources i _ k.0 within pushed w.in-Ok.ensures.ok,
-                losses_put sources i _ (string_bytes c.args.lost.now) (string_bytes c.loop-source.lost) _ within k.1 w.in-Ok.ensures.told);
+                λ none. let k = c.loop-source.invariant.kept (sym refused ∙ none) in (
+                  sources_put openapi_doc c.loop-source.documents.items _ w.in-Ok.document sources i _ k.0 within pushed w.in-Ok.ensures.ok,
+                  losses_put sources i _ (string_bytes c.args.lost.now) (string_bytes c.loop-source.lost) _ within k.1 w.in-Ok.ensures.told,
+                );
             told = told_put sources i _ so_far [] _ within c.loop-source.invariant.told (inr ((_, w.in-Ok.ensures.ok), refl)) (refused ∙ sym (append-nil so_far));
           }
       | in-Err-Told+in_ok-push_str-in-Err-Told w ↦
