@@ -1,12 +1,13 @@
-use Rattle.std.proofs.Common.{◌≡◌, ◌∙◌, ◌++◌, List, ℕ, map, ap, refl, subst, string_bytes}
+use Rattle.std.proofs.Common.{◌≡◌, ◌∙◌, ◌⊎◌, true, ◌++◌, List, ℕ, map, ap, refl, subst, string_bytes}
 use Rattle.utoipa_base.proofs.Results.{if_is}
+use Rattle.utoipa_findings.specs.declared.refusal.Refusal.TheVariants.{Memory}
 use Rattle.utoipa_findings.proofs.Fitting.{passed_on}
 use Rattle.utoipa_merging.specs.Merged.{IsMerged}
 use Rattle.utoipa.specs.OpenApi.{openapi_doc, openapi_of_kind}
-use Rattle.utoipa_command.specs.Files.{file_of, lost_by_merging}
+use Rattle.utoipa_command.specs.Files.{file_of, AreRefused, AreLossy}
 use Rattle.utoipa_command.proofs.Documents.{if_ok}
-use Rattle.utoipa_command.proofs.EachFile.{lossy_told, lost_is}
-use Rattle.utoipa_command.proofs.FileDocuments.{merged, all_of_kind, ok_is, err_is}
+use Rattle.utoipa_command.proofs.EachFile.{lossy_told, lost_is, memory_told}
+use Rattle.utoipa_command.proofs.FileDocuments.{merged, all_of_kind, ok_is, err_is, passed_beside}
 use Rattle.utoipa_command.proofs.files.merging.merge.Goals as goal
 
 pub returns-in_err-documents-3-clause-err : goal.returns-in_err-documents-3-clause-err
@@ -43,3 +44,7 @@ pub returns-in-Some-clause-kept : goal.returns-in-Some-clause-kept
 returns-in-Some-clause-kept c =
     if_ok _ _ c.with_losses.result c.with_losses.ensures.ok
     (λ w is strict. ap string_bytes is.1 ∙ ok_is _ c.with_dropped.result c.in_ok-documents-3.lost c.with_dropped.ensures.kept c.in_ok-documents-3.ensures.ok.1 strict)
+
+pub returns-in-Some-clause-err : goal.returns-in-Some-clause-err
+returns-in-Some-clause-err c =
+    memory_told (λ told. AreRefused (map file_of c.args.sources.now) told ⊎ ((c.args.strict ≡ true) × AreLossy (map file_of c.args.sources.now) told)) c.with_losses.result (passed_beside (λ w. w ≡ Memory) (λ w. w ≡ Memory) c.with_losses.result c.json_line.result c.with_losses.ensures.err c.json_line.ensures.err (λ w is. is))

@@ -1,11 +1,12 @@
-use Rattle.std.proofs.Common.{◌≡◌, ◌∙◌, ◌∷◌, [], ap, refl, sym, subst, string_bytes}
+use Rattle.std.proofs.Common.{◌≡◌, ◌∙◌, ◌⊎◌, true, ◌∷◌, [], ap, refl, sym, subst, string_bytes}
 use Rattle.utoipa.specs.OpenApi.{openapi_doc, openapi_of_kind}
 use Rattle.utoipa_findings.specs.Sources.{IsSourceOf}
+use Rattle.utoipa_findings.specs.declared.refusal.Refusal.TheVariants.{Memory}
 use Rattle.utoipa_findings.proofs.Fitting.{passed_on}
-use Rattle.utoipa_command.specs.Files.{document_kind, file_of, lost_by_nesting}
+use Rattle.utoipa_command.specs.Files.{document_kind, file_of, lost_by_nesting, AreRefused, AreLossyNested}
 use Rattle.utoipa_command.proofs.Documents.{if_ok}
-use Rattle.utoipa_command.proofs.EachFile.{lossy_nested_told, nested_lost_is}
-use Rattle.utoipa_command.proofs.FileDocuments.{nested, ok_is, err_is}
+use Rattle.utoipa_command.proofs.EachFile.{lossy_nested_told, nested_lost_is, memory_told}
+use Rattle.utoipa_command.proofs.FileDocuments.{nested, ok_is, err_is, passed_beside}
 use Rattle.utoipa_command.proofs.files.nesting.nest.Goals as goal
 
 pub returns-in_err-documents-3-clause-err : goal.returns-in_err-documents-3-clause-err
@@ -51,3 +52,7 @@ pub returns-clause-kept : goal.returns-clause-kept
 returns-clause-kept c =
     if_ok _ _ c.with_losses.result c.with_losses.ensures.ok
     (λ w is strict. ap string_bytes is.1 ∙ ok_is _ c.with_dropped.result c.in_ok-documents-3.lost c.with_dropped.ensures.kept c.in_ok-documents-3.ensures.ok.1 strict)
+
+pub returns-clause-err : goal.returns-clause-err
+returns-clause-err c =
+    memory_told (λ told. AreRefused (file_of c.args.own ∷ file_of c.args.nested ∷ []) told ⊎ ((c.args.strict ≡ true) × AreLossyNested c.args.base.now (file_of c.args.own) (file_of c.args.nested) told)) c.with_losses.result (passed_beside (λ w. w ≡ Memory) (λ w. w ≡ Memory) c.with_losses.result c.json_line.result c.with_losses.ensures.err c.json_line.ensures.err (λ w is. is))
