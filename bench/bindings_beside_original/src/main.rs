@@ -137,5 +137,7 @@ fn main() -> io::Result<()> {
         ));
     };
     let (command, turns) = (command.clone(), turns.parse().map_err(io::Error::other)?);
-    utoipa_proved::with_stack(move || time(&command, turns))?
+    let thread = std::thread::Builder::new().stack_size(utoipa_proved::STACK);
+    let timed = thread.spawn(move || time(&command, turns))?;
+    timed.join().expect("the crate ended the run")
 }

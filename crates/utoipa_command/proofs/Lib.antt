@@ -7,4 +7,3 @@ pub mod Counts
 pub mod TextsRead
 pub mod FileDocuments
 pub mod EachFile
-mod Whole

@@ -5,5 +5,4 @@ pub mod Messages
 pub mod Runs
 pub mod Layouts
 pub mod Files
-pub mod Whole
 pub mod Dropped
