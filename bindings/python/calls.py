@@ -116,6 +116,33 @@ class Calls(unittest.TestCase):
         threading.stack_size(was)
         self.assertEqual(answers, [text])
 
+    def test_a_small_stack_of_the_caller_is_enough(self):
+        item = "{}"
+        for _ in range(30):
+            item = '{"get":{"callbacks":{"c":{"e":%s}},"responses":{}}}' % item
+        text = '{"components":{"pathItems":{"P":%s}},"info":{"title":"a","version":"1"},"openapi":"3.1.0","paths":{"/a":%s}}' % (item, item)
+        answers, before = [], threading.stack_size(1 << 18)
+        thread = threading.Thread(target=lambda: answers.append(utoipa.merge("[%s,%s]" % (text, text))))
+        thread.start()
+        threading.stack_size(before)
+        thread.join()
+        self.assertEqual(answers, [text])
+
+    def test_what_is_raised_on_a_small_stack_is_raised_to_the_caller(self):
+        raised, before = [], threading.stack_size(1 << 18)
+
+        def call():
+            try:
+                utoipa.document("{")
+            except utoipa.Refused as refused:
+                raised.append(refused.word)
+
+        thread = threading.Thread(target=call)
+        thread.start()
+        threading.stack_size(before)
+        thread.join()
+        self.assertEqual(raised, ["text"])
+
     def test_threads_call_side_by_side(self):
         answers = {}
 

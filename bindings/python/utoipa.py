@@ -12,8 +12,7 @@ raised. What is promised of each is what utoipa.h says.
         ...
     utoipa.Refused: missing: a member that is required is absent
 
-A thread that calls has to have a stack of `STACK` bytes. It mostly has; else `threading.stack_size(utoipa.STACK)` gives it to those that are
-started from then on.
+A call may take a stack of `STACK` bytes, where a text nests deep. On a thread that has less it is made on one that is started for it.
 
 The library is libutoipa.so: of the folder that the environment variable UTOIPA_LIBRARY names, or else where the system finds it. Other
 threads run while the library is called.
@@ -22,7 +21,8 @@ from __future__ import annotations
 
 import ctypes
 import os
-from typing import Any, Union
+import threading
+from typing import Any, Callable, Union
 
 __all__ = ["STACK", "Refused", "check", "conflicts", "document", "merge", "nest", "schema", "server"]
 
@@ -79,6 +79,61 @@ def _library() -> ctypes.CDLL:
 
 _LIBRARY = _library()
 
+# Of each thread whether its stack is enough.
+_THREAD = threading.local()
+
+# Held while a thread is started with a stack of its own size, which is asked of all that are started.
+_STARTING = threading.Lock()
+
+
+def _stack_size() -> int:
+    """The stack of this thread in bytes, 0 where the system does not tell it."""
+    try:
+        system = ctypes.CDLL(None)
+        system.pthread_self.restype = ctypes.c_void_p
+        # More than the attributes of a thread take on any Linux.
+        attributes, first, size = ctypes.create_string_buffer(256), ctypes.c_void_p(), ctypes.c_size_t()
+        if system.pthread_getattr_np(ctypes.c_void_p(system.pthread_self()), attributes):
+            return 0
+        system.pthread_attr_getstack(attributes, ctypes.byref(first), ctypes.byref(size))
+        system.pthread_attr_destroy(attributes)
+        return size.value
+    except (AttributeError, OSError):
+        return 0
+
+
+def _has_stack() -> bool:
+    """Whether this thread has a stack that is enough for each call."""
+    if not hasattr(_THREAD, "has_stack"):
+        _THREAD.has_stack = _stack_size() >= STACK
+    return _THREAD.has_stack
+
+
+def _with_stack(call: Callable[[], str]) -> str:
+    """What a call gives, made here where the stack is enough, and else on a thread of its own."""
+    if _has_stack():
+        return call()
+    outcome: list = []
+
+    def run() -> None:
+        try:
+            outcome.extend((call(), None))
+        except BaseException as raised:
+            outcome.extend((None, raised))
+
+    with _STARTING:
+        before = threading.stack_size(STACK)
+        try:
+            thread = threading.Thread(target=run)
+            thread.start()
+        finally:
+            threading.stack_size(before)
+    thread.join()
+    answer, raised = outcome
+    if raised is not None:
+        raise raised
+    return answer
+
 
 def _bytes_of(text: Text) -> bytes:
     return text.encode() if isinstance(text, str) else bytes(memoryview(text))
@@ -86,6 +141,11 @@ def _bytes_of(text: Text) -> bytes:
 
 def _answer(function: Any, *given: Text) -> str:
     """The answer of a function of the library to what it is given."""
+    return _with_stack(lambda: _answer_here(function, *given))
+
+
+def _answer_here(function: Any, *given: Text) -> str:
+    """The same, on this thread."""
     words = [_bytes_of(it) for it in given]
     passed = [it for word in words for it in (word, len(word))]
     # The answer is mostly no longer than the text and its line feed. Where it is, the library says how long.

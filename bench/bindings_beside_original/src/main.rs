@@ -137,7 +137,5 @@ fn main() -> io::Result<()> {
         ));
     };
     let (command, turns) = (command.clone(), turns.parse().map_err(io::Error::other)?);
-    let thread = std::thread::Builder::new().stack_size(utoipa_proved::STACK);
-    let timed = thread.spawn(move || time(&command, turns))?;
-    timed.join().expect("the crate ended the run")
+    utoipa_proved::with_stack(move || time(&command, turns))?
 }

@@ -10,22 +10,57 @@
 //! assert_eq!(server(r#"{ "description": "where" }"#), Err(Refusal::Missing));
 //! ```
 //!
-//! A thread that calls has to have a stack of [`STACK`] bytes. One of std has less, if nothing else is said, which is not enough for the texts
-//! that nest deepest:
+//! A call takes more stack than a thread of std has, where a text nests deep. So each call is made on a thread of its own with a stack that is
+//! enough; many calls share one in [`with_stack`]:
 //!
 //! ```
-//! use utoipa_proved::{document, STACK};
+//! use utoipa_proved::{document, with_stack};
 //!
 //! let text = r#"{"openapi":"3.1.0","info":{"version":"1","title":"t"},"paths":{}}"#;
-//! let thread = std::thread::Builder::new().stack_size(STACK).spawn(move || document(text));
-//! let answer = thread.expect("a thread").join().expect("an answer");
-//! assert_eq!(answer.as_deref(), Ok(r#"{"info":{"title":"t","version":"1"},"openapi":"3.1.0","paths":{}}"#));
+//! let answers = with_stack(|| [document(text), document("{")]).expect("a thread");
+//! assert_eq!(answers[0].as_deref(), Ok(r#"{"info":{"title":"t","version":"1"},"openapi":"3.1.0","paths":{}}"#));
 //! ```
 
-use std::fmt;
+use std::cell::Cell;
+use std::panic::resume_unwind;
+use std::{fmt, io, thread};
 
 /// The stack in bytes that a call may take, UTOIPA_STACK of `utoipa.h`. Where a thread has less, a text that nests deep ends the process.
 pub const STACK: usize = 4 << 20;
+
+thread_local! {
+    /// Whether calls are made on this thread, and not on one of their own.
+    static HAS_STACK: Cell<bool> = const { Cell::new(false) };
+}
+
+/// Does some work on a thread whose stack is enough for each call, and gives what it makes. The calls in it are made where they stand, so that many
+/// cost one thread. A panic of the work goes on here.
+///
+/// # Errors
+///
+/// Fails where no thread can be had.
+pub fn with_stack<T: Send>(work: impl FnOnce() -> T + Send) -> io::Result<T> {
+    if HAS_STACK.with(Cell::get) {
+        return Ok(work());
+    }
+    thread::scope(|scope| {
+        let thread = thread::Builder::new().stack_size(STACK);
+        let begun = thread.spawn_scoped(scope, || {
+            HAS_STACK.with(|it| it.set(true));
+            work()
+        })?;
+        Ok(begun.join().unwrap_or_else(|panic| resume_unwind(panic)))
+    })
+}
+
+/// Has the calls of this thread made where they stand from now on, as in [`with_stack`]: for who has begun it with a stack that is enough.
+///
+/// # Safety
+///
+/// Wherever the thread calls it has [`STACK`] bytes of its stack left. With fewer, a text that nests deep ends the process.
+pub unsafe fn trust_stack() {
+    HAS_STACK.with(|it| it.set(true));
+}
 
 /// The functions of `utoipa.h`, and the codes that are no refusal.
 mod library {
@@ -193,8 +228,19 @@ impl fmt::Display for Refusal {
 
 impl std::error::Error for Refusal {}
 
+/// Calls as [`answer_here`] does, where there is stack enough. Where no thread can be had for that, this is memory's refusal.
+fn answer(
+    length: usize,
+    call: impl Fn(&mut [u8], &mut usize) -> u8 + Send,
+) -> Result<String, Refusal> {
+    with_stack(|| answer_here(length, call)).unwrap_or(Err(Refusal::Memory))
+}
+
 /// Calls with room for a text of the length and a line feed, and with more room where the answer is longer.
-fn answer(length: usize, call: impl Fn(&mut [u8], &mut usize) -> u8) -> Result<String, Refusal> {
+fn answer_here(
+    length: usize,
+    call: impl Fn(&mut [u8], &mut usize) -> u8,
+) -> Result<String, Refusal> {
     let mut room = vec![0; length + 1];
     loop {
         let mut needed = 0;

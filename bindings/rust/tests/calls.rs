@@ -1,6 +1,8 @@
 //! Calls of each function. What is expected is worked by hand from docs/FORMAT.md; an example of the repository is written as its own tree.
 
-use utoipa_proved::{check, conflicts, document, merge, nest, schema, server, Refusal};
+use utoipa_proved::{
+    check, conflicts, document, merge, nest, schema, server, with_stack, Refusal,
+};
 
 const FIRST: &str = r#"{"openapi":"3.1.0","info":{"version":"1","title":"a"},"paths":{"/a":{"get":{"responses":{}}}}}"#;
 const SECOND: &str = r#"{"openapi":"3.1.0","info":{"version":"2","title":"b"},"paths":{"/b":{},"/a":{"post":{"responses":{}}}}}"#;
@@ -119,6 +121,36 @@ fn a_refusal_is_an_error_with_a_word() {
     let refused: Box<dyn std::error::Error + Send + Sync> = Box::new(merge("[]").unwrap_err());
     assert_eq!(refused.to_string(), "there is no document to merge");
     assert_eq!(Refusal::Empty.word(), "empty");
+}
+
+/// A path item with callbacks in each other.
+fn callbacks_in_callbacks(levels: usize) -> String {
+    (0..levels).fold("{}".to_owned(), |inner, _| {
+        format!(r#"{{"get":{{"callbacks":{{"c":{{"e":{inner}}}}},"responses":{{}}}}}}"#)
+    })
+}
+
+/// A thread with a stack that is far too small for the call: the call is made on one that has enough.
+#[test]
+fn a_text_that_nests_deep_needs_no_stack_of_the_caller() {
+    let item = callbacks_in_callbacks(30);
+    let text = format!(
+        r#"{{"components":{{"pathItems":{{"P":{item}}}}},"info":{{"title":"a","version":"1"}},"openapi":"3.1.0","paths":{{"/a":{item}}}}}"#
+    );
+    let list = format!("[{text},{text}]");
+    let small = std::thread::Builder::new().stack_size(1 << 16);
+    let answer = small.spawn(move || merge(list)).expect("a thread").join();
+    assert_eq!(answer.expect("an answer"), Ok(text));
+}
+
+#[test]
+fn many_calls_share_a_stack() {
+    let answers = with_stack(|| {
+        let inner = with_stack(|| server(r#"{"url":"a"}"#)).expect("no other thread");
+        (inner, server(r#"{"url":"b"}"#))
+    });
+    let wanted = |url: &str| Ok(format!(r#"{{"url":"{url}"}}"#));
+    assert_eq!(answers.expect("a thread"), (wanted("a"), wanted("b")));
 }
 
 #[test]

@@ -7,7 +7,10 @@ use clap::ArgMatches;
 use std::process::ExitCode;
 use utoipa_check::Shown;
 use utoipa_command::files;
-use utoipa_command::files::{Layout, Refusal, Source};
+use utoipa_command::files::{Layout, Refusal, Source, Written};
+
+// What a text in UTF-8 may begin with, to say that it is one.
+const BYTE_ORDER_MARK: &[u8] = b"\xEF\xBB\xBF";
 
 /// Does what the words ask, and says how that ended.
 pub fn perform(rt: &HostRuntime, matches: &ArgMatches<'_>) -> Result<ExitCode> {
@@ -56,6 +59,23 @@ fn answer(
     }
 }
 
+// The bytes of a file, without a mark that they are UTF-8.
+fn unmarked(bytes: &[u8]) -> &[u8] {
+    bytes.strip_prefix(BYTE_ORDER_MARK).unwrap_or(bytes)
+}
+
+// Whether standard input is named more than once, which is told: it can be read once.
+fn is_read_twice(rt: &HostRuntime, names: &[&str]) -> Result<bool> {
+    let mut count = 0usize;
+    for name in names {
+        count = count.saturating_add(usize::from(*name == "-"));
+    }
+    if count > 1 {
+        eprintln!(rt; "openapi: standard input can't be read twice")?;
+    }
+    Ok(count > 1)
+}
+
 // All that stands in a file, or none where it can't be read, which is told.
 fn read(rt: &HostRuntime, name: &str) -> Result<Option<Vec<u8>>> {
     match bytes_of(rt, name) {
@@ -73,7 +93,7 @@ fn check_file(rt: &HostRuntime, name: &str) -> Result<bool> {
     let Some(bytes) = read(rt, name)? else {
         return Ok(true);
     };
-    let bytes = bytes.as_slice();
+    let bytes = unmarked(bytes.as_slice());
     let lines = files::check(rt.alloc(), Source { name, bytes })?;
     write(rt, None, lines.as_str())?;
     Ok(!lines.is_empty())
@@ -81,6 +101,9 @@ fn check_file(rt: &HostRuntime, name: &str) -> Result<bool> {
 
 fn check(rt: &HostRuntime, words: &ArgMatches<'_>) -> Result<ExitCode> {
     let names = words.get_strs("FILE").unwrap_or(&[]);
+    if is_read_twice(rt, names)? {
+        return Ok(ExitCode::from(2));
+    }
     let mut progress = Progress::new(rt);
     let mut found = false;
     for (at, name) in names.iter().enumerate() {
@@ -94,38 +117,59 @@ fn check(rt: &HostRuntime, words: &ArgMatches<'_>) -> Result<ExitCode> {
     })
 }
 
+// Tells what is lost, and writes the document where it is to be written, or tells why there is none.
+fn answer_document(
+    rt: &HostRuntime,
+    words: &ArgMatches<'_>,
+    made: Result<Written, Refusal>,
+) -> Result<ExitCode> {
+    match made {
+        Ok(written) => {
+            let lost = written.lost;
+            eprint!(rt; "{lost}")?;
+            answer(rt, words.get_str("OUT"), Ok(written.text))
+        }
+        Err(refusal) => refuse(rt, refusal),
+    }
+}
+
 fn format(rt: &HostRuntime, words: &ArgMatches<'_>) -> Result<ExitCode> {
     let name = words.get_str("FILE").unwrap_or("-");
     let Some(bytes) = read(rt, name)? else {
         return Ok(ExitCode::FAILURE);
     };
-    let bytes = bytes.as_slice();
-    let made = files::format(rt.alloc(), layout(words), Source { name, bytes });
-    answer(rt, words.get_str("OUT"), made)
+    let bytes = unmarked(bytes.as_slice());
+    let strict = words.get_flag("strict");
+    let made = files::format(rt.alloc(), layout(words), strict, Source { name, bytes });
+    answer_document(rt, words, made)
 }
 
-// The bytes of some files, or none where one of them can't be read, which is told.
+// The bytes of some files, or none where some of them can't be read, each of which is told.
 fn read_all(rt: &HostRuntime, names: &[&str]) -> Result<Option<Vec<Vec<u8>>>> {
     let mut progress = Progress::new(rt);
     let mut files = Vec::new(rt.alloc());
+    let mut all = true;
     for (at, name) in names.iter().enumerate() {
         progress.step(rt, "are read", at, names.len());
         match read(rt, name)? {
             Some(bytes) => files.push(bytes)?,
-            None => return Ok(None),
+            None => all = false,
         }
     }
-    Ok(Some(files))
+    Ok(all.then_some(files))
 }
 
 fn merge(rt: &HostRuntime, words: &ArgMatches<'_>) -> Result<ExitCode> {
     let names = words.get_strs("FILE").unwrap_or(&[]);
+    if is_read_twice(rt, names)? {
+        return Ok(ExitCode::from(2));
+    }
     let Some(files) = read_all(rt, names)? else {
         return Ok(ExitCode::FAILURE);
     };
     let mut sources = Vec::new(rt.alloc());
     for (name, bytes) in names.iter().zip(files.iter()) {
-        let bytes = bytes.as_slice();
+        let bytes = unmarked(bytes.as_slice());
         sources.push(Source { name: *name, bytes })?;
     }
     merge_sources(rt, words, sources.as_slice())
@@ -140,7 +184,7 @@ fn size_of(sources: &[Source<'_>]) -> usize {
     size
 }
 
-// Merges files, and tells what that drops.
+// Merges files, and tells what is lost by that.
 fn merge_sources(
     rt: &HostRuntime,
     words: &ArgMatches<'_>,
@@ -152,34 +196,36 @@ fn merge_sources(
     }
     let strict = words.get_flag("strict");
     Progress::new(rt).begin(rt, "merging", size_of(sources));
-    match files::merge(rt.alloc(), layout(words), strict, sources) {
-        Ok(merged) => {
-            let dropped = merged.dropped;
-            eprint!(rt; "{dropped}")?;
-            answer(rt, words.get_str("OUT"), Ok(merged.text))
-        }
-        Err(refusal) => refuse(rt, refusal),
-    }
+    let made = files::merge(rt.alloc(), layout(words), strict, sources);
+    answer_document(rt, words, made)
 }
 
 fn nest(rt: &HostRuntime, words: &ArgMatches<'_>) -> Result<ExitCode> {
-    let base = words.get_str("BASE").unwrap_or("");
+    // `/api/` is `/api`.
+    let base = words.get_str("BASE").unwrap_or("").trim_end_matches('/');
+    if !files::is_base(base) {
+        let base = Shown(base);
+        eprintln!(rt; "openapi: the base `{base}` does not begin with `/`")?;
+        return Ok(ExitCode::from(2));
+    }
     let name = words.get_str("FILE").unwrap_or("-");
     let nested_name = words.get_str("NESTED").unwrap_or("-");
-    let Some(bytes) = read(rt, name)? else {
+    if is_read_twice(rt, &[name, nested_name])? {
+        return Ok(ExitCode::from(2));
+    }
+    let both = (read(rt, name)?, read(rt, nested_name)?);
+    let (Some(bytes), Some(nested_bytes)) = both else {
         return Ok(ExitCode::FAILURE);
     };
-    let Some(nested_bytes) = read(rt, nested_name)? else {
-        return Ok(ExitCode::FAILURE);
-    };
-    let bytes = bytes.as_slice();
+    let bytes = unmarked(bytes.as_slice());
     let own = Source { name, bytes };
     let nested = Source {
         name: nested_name,
-        bytes: nested_bytes.as_slice(),
+        bytes: unmarked(nested_bytes.as_slice()),
     };
-    let made = files::nest(rt.alloc(), layout(words), base, own, nested);
-    answer(rt, words.get_str("OUT"), made)
+    let strict = words.get_flag("strict");
+    let made = files::nest(rt.alloc(), layout(words), strict, base, own, nested);
+    answer_document(rt, words, made)
 }
 
 fn operations(rt: &HostRuntime, words: &ArgMatches<'_>) -> Result<ExitCode> {
@@ -187,7 +233,7 @@ fn operations(rt: &HostRuntime, words: &ArgMatches<'_>) -> Result<ExitCode> {
     let Some(bytes) = read(rt, name)? else {
         return Ok(ExitCode::FAILURE);
     };
-    let bytes = bytes.as_slice();
+    let bytes = unmarked(bytes.as_slice());
     let made = files::operations(rt.alloc(), Source { name, bytes });
     answer(rt, None, made)
 }
@@ -197,7 +243,7 @@ fn stats(rt: &HostRuntime, words: &ArgMatches<'_>) -> Result<ExitCode> {
     let Some(bytes) = read(rt, name)? else {
         return Ok(ExitCode::FAILURE);
     };
-    let bytes = bytes.as_slice();
+    let bytes = unmarked(bytes.as_slice());
     let made = files::stats(rt.alloc(), Source { name, bytes });
     answer(rt, None, made)
 }

@@ -1,10 +1,13 @@
 //! What is read and written.
 
-use anyhow::{Context, Result};
+use anyhow::{Context, Result, bail};
 use std::fs::{File, Metadata};
-use std::io::{Read, Write};
+use std::io::{ErrorKind, Read, Write};
 use std::{fs, io, process};
 use utoipa_check::Shown;
+
+// How many names are tried for a new file.
+const MOST_ATTEMPTS: usize = 100;
 
 /// All that stands in a file, or in standard input where the name is `-`.
 pub fn bytes_of(rt: &HostRuntime, name: &str) -> Result<Vec<u8>> {
@@ -28,7 +31,11 @@ pub fn write(rt: &HostRuntime, output: Option<&str>, text: &str) -> Result<()> {
 }
 
 fn write_standard(rt: &HostRuntime, text: &str) -> io::Result<()> {
-    rt.stdout().write_all(text.as_bytes())
+    match rt.stdout().write_all(text.as_bytes()) {
+        // Who reads it has had enough, as `head` has.
+        Err(error) if error.kind() == ErrorKind::BrokenPipe => Ok(()),
+        written => written,
+    }
 }
 
 // Writes a file whole, or leaves what was there. What is no file, as a device or a pipe, is written to as it is.
@@ -40,15 +47,32 @@ fn write_file(rt: &HostRuntime, name: &str, text: &str) -> Result<()> {
             let path = fs::canonicalize(rt, name)?;
             replace(rt, path.as_str(), Some(&found), text)
         }
-        Err(_) => replace(rt, name, None, text),
+        Err(_) => {
+            if fs::symlink_metadata(rt, name).is_ok() {
+                bail!("it is a link that leads to nothing");
+            }
+            replace(rt, name, None, text)
+        }
     }
+}
+
+// Makes a new file beside the named one, under a name that none has, and gives that too. A run that was broken off may have left one.
+fn new_beside(rt: &HostRuntime, name: &str) -> Result<(String, File)> {
+    let number = process::id(rt.process());
+    for attempt in 0..MOST_ATTEMPTS {
+        let beside = format!(in rt.alloc(); "{name}.{number}.{attempt}.new")?;
+        match File::create_new(rt, beside.as_str()) {
+            Ok(file) => return Ok((beside, file)),
+            Err(error) if error.kind() == ErrorKind::AlreadyExists => {}
+            Err(error) => return Err(error.into()),
+        }
+    }
+    bail!("{MOST_ATTEMPTS} files of earlier runs stand beside it, as {name}.{number}.0.new")
 }
 
 // Writes a new file beside the named one, and puts it in its place. The new one has the permissions of the one that was there.
 fn replace(rt: &HostRuntime, name: &str, there: Option<&Metadata>, text: &str) -> Result<()> {
-    let number = process::id(rt.process());
-    let beside = format!(in rt.alloc(); "{name}.{number}.new")?;
-    let file = File::create_new(rt, beside.as_str())?;
+    let (beside, file) = new_beside(rt, name)?;
     let written = fill(file, there, text).and_then(|()| fs::rename(rt, beside.as_str(), name));
     if written.is_err() {
         // What is told is why it was not written.

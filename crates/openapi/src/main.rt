@@ -27,8 +27,8 @@ fn main(rt: HostRuntime) -> ExitCode {
     }
 }
 
-// Does what the words of the call ask, and says how that ended: 0 where all is well, 1 where something was found or could not be read or
-// written, 2 where the words are wrong.
+// Does what the words of the call ask, and says how that ended: 0 where all is well, 1 where something was found, is lost under --strict,
+// or could not be read or written, 2 where the words are wrong.
 fn run(rt: &HostRuntime) -> Result<ExitCode> {
     let words: Vec<String> = env::args(rt)?.collect(rt.alloc())?;
     match command(rt.alloc())?.try_get_matches_from(words.as_slice()) {

@@ -4,7 +4,7 @@ use clap::{Arg, ArgAction, Command};
 use std::alloc::{AllocError, Global};
 
 const AFTER_HELP: &str =
-    "A file - is standard input. YAML is not read: yq -o json api.yaml | openapi check -\n\nThe status is 0 where all is well, 1 where something was found or could not be read or written, and 2 where the words are wrong.";
+    "A file - is standard input. YAML is not read: yq -o json api.yaml | openapi check - (yq of mikefarah)\n\nThe status is 0 where all is well, 1 where something was found, is lost under --strict, or could not be read or written, and 2 where the words are wrong.";
 
 /// The command with its subcommands. Fails where memory runs out.
 pub fn command<'a>(alloc: Global) -> Result<Command<'a>, AllocError> {
@@ -35,22 +35,17 @@ fn check<'a>(alloc: Global) -> Result<Command<'a>, AllocError> {
 fn format<'a>(alloc: Global) -> Result<Command<'a>, AllocError> {
     let command = Command::new(alloc, "format")
         .about(
-            "Writes a document in its normal form, the members of each object in the order of their names",
+            "Writes a document in its normal form, the members of each object in the order of their names, and tells on standard error what that loses",
         )
         .arg(file(alloc, "FILE", "The document"))?;
     with_output(alloc, command)
 }
 
 fn merge<'a>(alloc: Global) -> Result<Command<'a>, AllocError> {
-    let strict = Arg::new(alloc, "strict")
-        .long("strict")
-        .action(ArgAction::SetTrue)
-        .help("Refuse where merging drops something");
     let command = Command::new(alloc, "merge")
         .about(
-            "Merges documents, and tells on standard error what that drops: where two have something of one name, most often the first stays",
+            "Merges documents, and tells on standard error what that loses: where two have something of one name, most often the first stays",
         )
-        .arg(strict)?
         .arg(files(
             alloc,
             "The documents, the first of which gives its info and version",
@@ -60,10 +55,12 @@ fn merge<'a>(alloc: Global) -> Result<Command<'a>, AllocError> {
 
 fn nest<'a>(alloc: Global) -> Result<Command<'a>, AllocError> {
     let base = Arg::new(alloc, "BASE").required(true).help(
-        "What is put before the paths of the nested document, as /api",
+        "What is put before the paths of the nested document, as /api: nothing, or a path that begins with /",
     );
     let command = Command::new(alloc, "nest")
-        .about("Nests a document into another, its paths behind a base")
+        .about(
+            "Nests a document into another, its paths behind a base, and tells on standard error what that loses",
+        )
         .arg(base)?
         .arg(file(alloc, "FILE", "The document"))?
         .arg(file(alloc, "NESTED", "The document that is nested into it"))?;
@@ -108,5 +105,9 @@ fn with_output<'a>(alloc: Global, command: Command<'a>) -> Result<Command<'a>, A
         .long("compact")
         .action(ArgAction::SetTrue)
         .help("Write all on one line");
-    command.arg(output)?.arg(compact)
+    let strict = Arg::new(alloc, "strict")
+        .long("strict")
+        .action(ArgAction::SetTrue)
+        .help("Refuse where something is lost");
+    command.arg(output)?.arg(compact)?.arg(strict)
 }

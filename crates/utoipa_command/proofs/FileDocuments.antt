@@ -1,5 +1,5 @@
 -- Documents that were read from files: they are plain and in key order, and so is what is made of them.
-use Rattle.std.proofs.Common.{◌≡◌, ◌∷◌, ℕ, List, [], false, Result, Ok, Err, IfOk, IfErr, map, subst}
+use Rattle.std.proofs.Common.{◌≡◌, ◌∷◌, ℕ, List, [], false, All, Result, Ok, Err, IfOk, IfErr, map, subst}
 use Rattle.std.specs.List.{AllByRecursion}
 use Rattle.std.proofs.lemmas.List.Elements.{All-from_recursion}
 use Rattle.serde_json.specs.Written.{has_float}
@@ -8,18 +8,18 @@ use Rattle.utoipa_base.specs.WellFormed.{IsPlain}
 use Rattle.utoipa_base.specs.Writing.{write}
 use Rattle.utoipa_base.proofs.Plain.{read_plain, write_plain}
 use Rattle.utoipa_findings.specs.Sources.{IsSourceOf}
+use Rattle.utoipa_findings.proofs.SortedWritten.{text_tree_sorted}
 use Rattle.utoipa_merging.specs.Merged.{IsInKeyOrder, IsMerged, IsOpenApi}
 use Rattle.utoipa_merging.specs.Nested.{IsNested}
 use Rattle.utoipa_merging.proofs.PlainMerged.{merged_plain, nested_plain}
 use Rattle.utoipa_merging.proofs.ReadInOrder.{read_in_order}
 use Rattle.utoipa_command.specs.Answers.{behind}
-use Rattle.utoipa_command.specs.Files.{File, document_kind, dropped_lines, AreSourcesOf, IsFormatted, IsMerge, IsNest}
+use Rattle.utoipa_command.specs.Files.{File, document_kind, file_losses, lost_by_merging, lost_by_nesting, AreSourcesOf, IsFormatted, IsMerge, IsNest}
 use Rattle.utoipa_command.specs.Layouts.{laid_out}
 use Rattle.utoipa_command.specs.declared.files.layout.Layout.{Layout}
-use Rattle.utoipa_command.proofs.Trees.{is_sorted}
 
-source_in_order : (d : Doc) (bytes : List ℕ) → IsSourceOf document_kind d bytes → IsInKeyOrder d
-source_in_order d bytes s = read_in_order s.tree d (is_sorted bytes s.tree s.has) s.reads.1
+pub source_in_order : (d : Doc) (bytes : List ℕ) → IsSourceOf document_kind d bytes → IsInKeyOrder d
+source_in_order d bytes s = read_in_order s.tree d (text_tree_sorted bytes s.tree s.has) s.reads.1
 
 source_plain : (d : Doc) (bytes : List ℕ) → IsSourceOf document_kind d bytes → IsPlain d
 source_plain d bytes s = read_plain document_kind s.tree d s.reads.0 s.reads.1
@@ -37,16 +37,31 @@ ok_is P r v h e = subst (λ s. IfOk s P) e h
 pub err_is : {T E : Type 0} (P : E → Type 0) (r : Result T E) (w : E) → IfErr r P → r ≡ Err w → P w
 err_is P r w h e = subst (λ s. IfErr s P) e h
 
+-- what refuses what is made beside a value
+pub passed_beside : {T U E : Type 0} (P Q : E → Type 0) (r : Result T E) (made : Result U E) → IfErr r (λ w. made ≡ Err w) → IfErr made P → ((w : E) → P w → Q w) → IfErr r Q
+passed_beside P Q (Ok v) made is h f = tt
+passed_beside P Q (Err w) made is h f = f w (err_is P made w h is)
+
+-- documents of a type of OpenAPI documents
+each_of_kind : {D : Type 0} (f : D → Doc) → ((x : D) → IsOpenApi (f x)) → (xs : List D) → AllByRecursion IsOpenApi (map f xs)
+each_of_kind f of_kind [] = tt
+each_of_kind f of_kind (x ∷ xs) = (of_kind x, each_of_kind f of_kind xs)
+
+pub all_of_kind : {D : Type 0} (f : D → Doc) → ((x : D) → IsOpenApi (f x)) → (xs : List D) → All IsOpenApi (map f xs)
+all_of_kind f of_kind xs = All-from_recursion IsOpenApi (map f xs) (each_of_kind f of_kind xs)
+
 -- ---- answers
 
-pub formatted : (l : Layout) (bytes text : List ℕ) (d : Doc) → IsSourceOf document_kind d bytes → (has_float (write d) ≡ false → text ≡ laid_out l (write d)) → IsFormatted l bytes text
-formatted l bytes text d s printed = record { document = d; reads = s; written = printed (write_plain d (source_plain d bytes s)) }
+pub formatted : (l : Layout) (f : File) (text lost : List ℕ) (d : Doc) → IsSourceOf document_kind d f.1 → (has_float (write d) ≡ false → text ≡ laid_out l (write d)) → lost ≡ file_losses f
+    → IsFormatted l f text lost
+formatted l f text lost d s printed told = record { document = d; reads = s; written = printed (write_plain d (source_plain d f.1 s)); told = told }
 
-pub merged : (l : Layout) (fs : List File) (text dropped : List ℕ) (ds : List Doc) (d : Doc) → AreSourcesOf ds fs → IsMerged ds d → IsInKeyOrder d
-    → (has_float (write d) ≡ false → text ≡ laid_out l (write d)) → dropped ≡ dropped_lines (map (λ f. f.0) fs) ds → IsMerge l fs text dropped
-merged l fs text dropped ds d s m order printed told = record {
+pub merged : (l : Layout) (fs : List File) (text lost : List ℕ) (ds : List Doc) (d : Doc) → AreSourcesOf ds fs → All IsOpenApi ds → IsMerged ds d → IsInKeyOrder d
+    → (has_float (write d) ≡ false → text ≡ laid_out l (write d)) → lost ≡ lost_by_merging fs ds → IsMerge l fs text lost
+merged l fs text lost ds d s each m order printed told = record {
   documents = ds;
   reads = s;
+  each = each;
   answer = d;
   merges = m;
   ordered = order;
@@ -54,19 +69,22 @@ merged l fs text dropped ds d s m order printed told = record {
   told = told;
 }
 
-pub nested : (l : Layout) (base own_bytes inner_bytes text : List ℕ) (own inner d : Doc) → IsOpenApi own → IsOpenApi inner
-    → IsSourceOf document_kind own own_bytes → IsSourceOf document_kind inner inner_bytes
+pub nested : (l : Layout) (base : List ℕ) (own_file inner_file : File) (text lost : List ℕ) (own inner d : Doc) → IsOpenApi own → IsOpenApi inner
+    → IsSourceOf document_kind own own_file.1 → IsSourceOf document_kind inner inner_file.1
     → IsNested (behind base inner) own inner d → (IsInKeyOrder own → IsInKeyOrder d)
-    → (has_float (write d) ≡ false → text ≡ laid_out l (write d)) → IsNest l base own_bytes inner_bytes text
-nested l base own_bytes inner_bytes text own inner d p q s t n ordered printed =
-    let order = ordered (source_in_order own own_bytes s) in
+    → (has_float (write d) ≡ false → text ≡ laid_out l (write d)) → lost ≡ lost_by_nesting base own_file inner_file own inner → IsNest l base own_file inner_file text lost
+nested l base own_file inner_file text lost own inner d p q s t n ordered printed told =
+    let order = ordered (source_in_order own own_file.1 s) in
     record {
       own_document = own;
       reads = s;
       nested_document = inner;
       reads_nested = t;
+      own_kind = p;
+      nested_kind = q;
       answer = d;
       nests = n;
       ordered = order;
-      written = printed (write_plain d (nested_plain (behind base inner) own inner d p q n (source_plain own own_bytes s) (source_plain inner inner_bytes t) order));
+      written = printed (write_plain d (nested_plain (behind base inner) own inner d p q n (source_plain own own_file.1 s) (source_plain inner inner_file.1 t) order));
+      told = told;
     }

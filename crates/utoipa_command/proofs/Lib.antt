@@ -7,3 +7,4 @@ pub mod Counts
 pub mod TextsRead
 pub mod FileDocuments
 pub mod EachFile
+mod Whole

@@ -4,8 +4,6 @@ use Rattle.std.specs.Str.{IsUtf8, is_utf8}
 use Rattle.std.proofs.lemmas.Str.{IsUtf8-from_is_utf8, is_utf8-from_IsUtf8}
 use Rattle.serde_json.specs.Data.{Data}
 use Rattle.serde_json.specs.Read.{read as read_text}
-use Rattle.utoipa_merging.specs.Sorted.{IsSorted}
-use Rattle.utoipa_merging.proofs.SortedTexts.{text_sorted}
 use Rattle.utoipa_findings.specs.Sources.{tree_of}
 use Rattle.utoipa_command.specs.Answers.{IsCause, IsCauseInTree}
 use Rattle.utoipa_command.specs.Commands.{Request}
@@ -52,11 +50,3 @@ cause_of_text r bytes Word h k = let e : Word ≡ Text = h (λ m. cc) in cc
 cause_of_text r bytes Alternative h k = let e : Alternative ≡ Text = h (λ m. cc) in cc
 cause_of_text r bytes Empty h k = let e : Empty ≡ Text = h (λ m. cc) in cc
 cause_of_text r bytes Count h k = let e : Count ≡ Text = h (λ m. cc) in cc
-
-sorted_if : (b : Bool) (text : List ℕ) (t : Data) → (if b then read_text text else None) ≡ Some t → IsSorted t
-sorted_if true text t e = text_sorted text t e
-sorted_if false text t e = cc
-
--- the tree of a text has the members of each object in the order of their names
-pub is_sorted : (bytes : List ℕ) (t : Data) → tree_of bytes ≡ Some t → IsSorted t
-is_sorted bytes t e = sorted_if (is_utf8 bytes) bytes t e

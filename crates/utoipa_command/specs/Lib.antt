@@ -5,4 +5,5 @@ pub mod Messages
 pub mod Runs
 pub mod Layouts
 pub mod Files
+pub mod Whole
 pub mod Dropped

@@ -71,9 +71,16 @@ some_there : {A : Type 0} (o : Option A) → is_some o ≡ true → (x : A) × (
 some_there None e = absurd (true≢false (sym e))
 some_there (Some x) e = (x, refl)
 
-dropped_is : (k : Kind) (t : Data) (d : Doc) → ReadsAs k t d → dropped_where_read k t ≡ dropped t (write d)
+pub dropped_is : (k : Kind) (t : Data) (d : Doc) → ReadsAs k t d → dropped_where_read k t ≡ dropped t (write d)
 dropped_is k t d is =
     ap (λ b. cond b [] (or_none (dropped_by k t))) is.0 ∙ ap (λ o. or_none (option_map (λ x. dropped t (write x)) o)) is.1
+
+-- a tree that is not refused reads as a document
+pub unrefused_reads : (k : Kind) (t : Data) → refusals k t ≡ [] → (d : Doc) × ReadsAs k t d
+unrefused_reads k t none =
+    let both = both_hold (is_some (read k t)) (has_float t) (sym (misfits_and_fractions_exact k t) ∙ ap is_fit (map_none unfit_at (misfits_and_fractions k t) none)) in
+    let there = some_there (read k t) both.0 in
+    (there.0, (both.1, there.1))
 
 -- a document of whose tree nothing is in doubt and nothing is dropped
 back : (k : Kind) (t : Data) (d : Doc) → ReadsAs k t d → without_fractions (doubts k t) ≡ [] → dropped_where_read k t ≡ [] → ComesBack k t d

@@ -3,9 +3,11 @@ pub mod Texts
 pub mod Fitting
 pub mod Joined
 pub mod OnLines
+pub mod SortedWritten
 pub mod ComesBack
 pub mod InText
 pub mod Standing
 pub mod TakenIn
 pub mod MergedWhole
 pub mod NestedWhole
+pub mod NothingTold

@@ -32,6 +32,7 @@ use Rattle.utoipa_findings.specs.Findings.{losses, repeated_names}
 use Rattle.utoipa_findings.specs.Standing.{IsUnlost, AreUnlost, AllStandIn, AreMergedWhole}
 use Rattle.utoipa_findings.proofs.ComesBack.{second_none, undoubted_where_unlost}
 use Rattle.utoipa_findings.proofs.InText.{unlost_text}
+use Rattle.utoipa_findings.proofs.SortedWritten.{text_tree_sorted, written_once}
 use Rattle.utoipa_findings.proofs.Standing.{plain_place, value_is}
 use Rattle.utoipa_findings.proofs.TakenIn.{TakesIn, stands_in}
 
@@ -47,6 +48,10 @@ unlost_plain text t d u = write_plain d (read_plain (named open_api_object) t d 
 
 pub unlost_table : (text : List ℕ) (t : Data) (d : Doc) → IsUnlost text t d → IsOpenApi d → IsTable open_api_object d
 unlost_table text t d u is = let r = unlost_read text t d u in clear_table open_api_object d is (undoubted_unambiguous (named open_api_object) t d r.0 r.1)
+
+-- each name stands once in an object of what a file's document is written as
+pub unlost_once : (text : List ℕ) (t : Data) (d : Doc) → IsUnlost text t d → IsNamedOnce (write d)
+unlost_once text t d u = written_once (named open_api_object) t d (text_tree_sorted text t u.has) u.reads.1
 
 -- ---- files
 
@@ -65,6 +70,14 @@ all_clear [] [] (d ∷ ds) h = absurd h
 all_clear [] (t ∷ ts) ds h = absurd h
 all_clear (x ∷ xs) [] ds h = absurd h
 all_clear (x ∷ xs) (t ∷ ts) [] h = absurd h
+
+all_once : (xs : List (List ℕ)) (ts : List Data) (ds : List Doc) → AreUnlost xs ts ds → AllByRecursion IsNamedOnce (written ds)
+all_once [] [] [] h = tt
+all_once (x ∷ xs) (t ∷ ts) (d ∷ ds) h = (unlost_once x t d h.0, all_once xs ts ds h.1)
+all_once [] [] (d ∷ ds) h = absurd h
+all_once [] (t ∷ ts) ds h = absurd h
+all_once (x ∷ xs) [] ds h = absurd h
+all_once (x ∷ xs) (t ∷ ts) [] h = absurd h
 
 -- ---- one of the documents
 
@@ -118,7 +131,7 @@ taken_in : (texts : List (List ℕ)) (trees : List Data) (ds : List Doc) (d : Do
     → IsOpenApi c → IsNamedOnce (write c) → TakesIn c d
 taken_in texts trees ds d m j text tree c at u kind once =
     let read : AreReadAndMerged trees ds d = record { each = m.each; were_read = all_read texts trees ds m.files; merged = m.merged; ordered = m.ordered } in
-    let there : IsAllThere ds d = (nothing_of_read trees ds d read m.once).0 m.nothing in
+    let there : IsAllThere ds d = (nothing_of_read trees ds d read (All-from_recursion IsNamedOnce (written ds) (all_once texts trees ds m.files))).0 m.nothing in
     let clear = All-from_recursion IsUnambiguous ds (all_clear texts trees ds m.files) in
     let values : (s : Slot) (v : Data) → IsOneOf (s, v) (slots (write c)) → at_place (place s) (write d) ≡ Some v =
     λ s v h. value_is v (at_place (place s) (write d)) (plain_place (place s) (write c) v (slot_stands (write c) (s, v) once h) (unlost_plain text tree c u)) (there j s v (write c, tree_at ds j c at, h))
@@ -159,4 +172,4 @@ each_stands d (x ∷ xs) (t ∷ ts) [] h kinds once takes = absurd h
 
 pub all_stand_in : (texts : List (List ℕ)) (trees : List Data) (documents : List Doc) (d : Doc) → AreMergedWhole texts trees documents d → AllStandIn (write d) texts trees
 all_stand_in texts trees documents d m =
-    each_stands d texts trees documents m.files (recursion_from_All IsOpenApi documents m.each) (recursion_from_All IsNamedOnce (written documents) m.once) (taken_in texts trees documents d m)
+    each_stands d texts trees documents m.files (recursion_from_All IsOpenApi documents m.each) (all_once texts trees documents m.files) (taken_in texts trees documents d m)

@@ -20,7 +20,7 @@ use Rattle.utoipa_check.specs.Misfits.{at_name}
 use Rattle.utoipa_check.specs.Places.{members_at}
 use Rattle.utoipa_check.proofs.Undoubted.{undoubted_unambiguous}
 use Rattle.utoipa_conflicts.specs.Conflicts.{Slot, document_member, component_entry, components_extension, paths_extension, operation, named_operation, base_member, Filled, one_slot, item_slots, path_slots, member_slots, slots, place, place_of_item}
-use Rattle.utoipa_conflicts.specs.Holders.{EachMember}
+use Rattle.utoipa_conflicts.specs.Holders.{EachMember, IsNamedOnce}
 use Rattle.utoipa_conflicts.specs.IsConflict.{IsOneOf}
 use Rattle.utoipa_conflicts.specs.Merged.{is_slot}
 use Rattle.utoipa_conflicts.specs.Nested.{ItemAt, item_unless_extension, items_in as path_items_in, path_items, behind, answered, nested_conflicts}
@@ -39,7 +39,7 @@ use Rattle.utoipa_merging.proofs.Nesting.{nested_extension_values}
 use Rattle.utoipa_conflicts.proofs.NestedPaths.{nested_table}
 use Rattle.utoipa_findings.specs.Standing.{StandsBehind, EntryBehind, PathsBehind, MemberBehind, AreNestedWhole, BothStand, IsUnlost}
 use Rattle.utoipa_findings.proofs.InText.{unlost_text}
-use Rattle.utoipa_findings.proofs.MergedWhole.{unlost_read, unlost_plain, unlost_table, some_any, map_at, in_all, not_none}
+use Rattle.utoipa_findings.proofs.MergedWhole.{unlost_once, unlost_read, unlost_plain, unlost_table, some_any, map_at, in_all, not_none}
 use Rattle.utoipa_findings.proofs.Standing.{by_member, behind_step, plain_place, value_is}
 use Rattle.utoipa_findings.proofs.TakenIn.{TakesRest, TakesIn, written_is, rest_stands, under_paths_is, paths_object, stands_in}
 
@@ -95,6 +95,12 @@ under_item : (c : Doc) (path : List ℕ) → IsTable open_api_object c → at_pl
 under_item c path t = behind_step (codes "paths") (at_name path ∷ []) (write c) (write (paths_of c)) (under_paths c t) ∙ one_step path (write (paths_of c))
 
 module _ (base own_text other_text : List ℕ) (own_tree other_tree : Data) (own other d : Doc) (n : AreNestedWhole base own_text other_text own_tree other_tree own other d) where
+  own_once : IsNamedOnce (write own)
+  own_once = unlost_once own_text own_tree own n.own_file
+
+  other_once : IsNamedOnce (write other)
+  other_once = unlost_once other_text other_tree other n.other_file
+
   abbrev answers : List (List ℕ)
   answers = behind base (write other)
 
@@ -125,7 +131,7 @@ module _ (base own_text other_text : List ℕ) (own_tree other_tree : Data) (own
 
   none_lost : (p : Place) (j : ℕ) → IsLostByNesting answers own other d p j → ⊥
   none_lost p j lost =
-      let told = (told_where_nested answers own other d into n.own_once n.other_once p j).1 lost in
+      let told = (told_where_nested answers own other d into own_once other_once p j).1 lost in
       no_one (p, told.0, j) (nested_conflicts answers (write own) (write other)) n.nothing told.1
 
   -- ---- the document that is nested into
@@ -197,7 +203,7 @@ module _ (base own_text other_text : List ℕ) (own_tree other_tree : Data) (own
   own_taken : TakesIn own d
   own_taken =
       let values : (s : Slot) (v : Data) → IsOneOf (s, v) (slots (write own)) → at_place (place s) (write d) ≡ Some v =
-      λ s v h. own_value s v (are_slots (write own) (s, v) h) (slot_stands (write own) (s, v) n.own_once h)
+      λ s v h. own_value s v (are_slots (write own) (s, v) h) (slot_stands (write own) (s, v) own_once h)
       in
       record {
         rest = takes_rest own (with_paths n.nested.items (extensions_in (paths_of own)) own) 0 own_is refl (components_kept n.nested.items (extensions_in (paths_of own)) own own_is)
@@ -210,7 +216,7 @@ module _ (base own_text other_text : List ℕ) (own_tree other_tree : Data) (own
 
   other_value : (s : Slot) (v : Data) → IsOneOf (s, v) (slots (write other)) → is_of_item s ≡ false → at_place (place s) (write d) ≡ Some v
   other_value s v h rest =
-      value_is v (at_place (place s) (write d)) (plain_place (place s) (write other) v (slot_stands (write other) (s, v) n.other_once h) (unlost_plain other_text other_tree other n.other_file))
+      value_is v (at_place (place s) (write d)) (plain_place (place s) (write other) v (slot_stands (write other) (s, v) other_once h) (unlost_plain other_text other_tree other n.other_file))
       (is_true _ (λ lacks. none_lost (place s) 1 (inr (refl, inr (s, v, refl, h, rest, lacks)))))
 
   other_taken : TakesRest other d

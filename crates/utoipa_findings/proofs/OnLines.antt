@@ -1,5 +1,5 @@
 -- What is told is lines.
-use Rattle.std.proofs.Common.{ℕ, List, [], ◌∷◌, ◌++◌, Option, Some, None, codes, decimal, length, refl, sym, subst}
+use Rattle.std.proofs.Common.{ℕ, List, [], ◌∷◌, ◌++◌, ◌==◌, ◌||◌, Bool, true, false, if◌then◌else◌, Option, Some, None, codes, decimal, length, refl, sym, subst}
 use Rattle.std.specs.List.{flat_map}
 use Rattle.std.specs.Str.{is_utf8}
 use Rattle.std.proofs.lemmas.Bool.{cond_both}
@@ -16,7 +16,7 @@ use Rattle.utoipa_check.proofs.WholeLines.{IsEnded, decimal_line, end_of, printe
 use Rattle.utoipa_conflicts.specs.Conflicts.{Conflict}
 use Rattle.utoipa_findings.specs.Findings.{What, unfit, doubtful, lost, dangles, repeated, Finding}
 use Rattle.utoipa_findings.specs.Lines.{loss_text, what_text, place_text, finding_text, finding_line, lines_of, name_at, drop_line, conflict_line, nested_line}
-use Rattle.utoipa_findings.specs.Sources.{is_like_yaml, text_line, yaml_said, no_json, no_tree, IsTreelessLine}
+use Rattle.utoipa_findings.specs.Sources.{text_line, first_byte, looks, no_tree, IsTreelessLine}
 use Rattle.utoipa_findings.specs.Told.{IsTold, lines_due}
 
 -- ---- findings
@@ -53,20 +53,27 @@ text_ended name line column said h =
     (before_end (codes ":") _ (printed (codes ":") refl)
     (before_end (decimal line) _ (decimal_line line) (before_end (codes ":") _ (printed (codes ":") refl) (before_end (decimal column) _ (decimal_line column) (before_end (codes ": ") said (printed (codes ": ") refl) h)))))
 
-yaml_ended : (name : List ℕ) → IsEnded (yaml_said name)
-yaml_ended name =
-    before_end (codes "this is no JSON, and looks like YAML, which is not read: yq -o json ") _ (printed (codes "this is no JSON, and looks like YAML, which is not read: yq -o json ") refl)
-    (before_end (shown name) (codes " | openapi check -\n") (shown_line name) (printed_end (codes " | openapi check -") refl))
+-- by the first byte: a brace or a bracket, `<`, `/`, or another
+looks_by : (first second third : Bool) (a b c d : List ℕ) → IsEnded (a ++ codes "\n") → IsEnded (b ++ codes "\n") → IsEnded (c ++ codes "\n") → IsEnded (d ++ codes "\n")
+    → IsEnded ((if first then a else if second then b else if third then c else d) ++ codes "\n")
+looks_by true second third a b c d p q r s = p
+looks_by false true third a b c d p q r s = q
+looks_by false false true a b c d p q r s = r
+looks_by false false false a b c d p q r s = s
 
-no_json_ended : (name bytes : List ℕ) → IsEnded (no_json name bytes)
-no_json_ended name bytes = cond_both (is_like_yaml bytes) _ _ IsEnded (λ _. yaml_ended name) (λ _. printed_end (codes "this is no JSON") refl)
+looks_ended : (o : Option ℕ) → IsEnded (looks o ++ codes "\n")
+looks_ended None = printed_end (codes "this is no JSON: there is nothing in it") refl
+looks_ended (Some c) =
+    looks_by (c == 123 || c == 91) (c == 60) (c == 47) _ _ _ _ (printed_end (codes "this is no JSON") refl) (printed_end (codes "this is no JSON, and looks like HTML or XML") refl)
+    (printed_end (codes "this is no JSON, which has no comments") refl)
+    (printed_end (codes "this is no JSON, and looks like YAML, which is not read: `yq -o json` of mikefarah/yq makes JSON of it") refl)
 
-no_tree_ended : (name bytes : List ℕ) → IsEnded (no_tree name bytes)
-no_tree_ended name bytes = cond_both (is_utf8 bytes) _ _ IsEnded (λ _. no_json_ended name bytes) (λ _. printed_end (codes "this is no UTF-8") refl)
+no_tree_ended : (bytes : List ℕ) → IsEnded (no_tree bytes)
+no_tree_ended bytes = cond_both (is_utf8 bytes) _ _ IsEnded (λ _. looks_ended (first_byte bytes)) (λ _. printed_end (codes "this is no UTF-8") refl)
 
 pub treeless_is_a_line : (name bytes told : List ℕ) → IsTreelessLine name bytes told → AreLines 1 told
 treeless_is_a_line name bytes told h =
-    subst (AreLines 1) (sym h.2) (one_line_told (text_line name h.0 h.1 (no_tree name bytes)) (text_ended name h.0 h.1 (no_tree name bytes) (no_tree_ended name bytes)))
+    subst (AreLines 1) (sym h.2) (one_line_told (text_line name h.0 h.1 (no_tree bytes)) (text_ended name h.0 h.1 (no_tree bytes) (no_tree_ended bytes)))
 
 -- ---- what is told of a file
 

@@ -8,7 +8,7 @@ use Rattle.utoipa_check.specs.Pointers.{shown_pointer}
 use Rattle.utoipa_check.specs.Views.{step_of, outwards}
 use Rattle.utoipa_check.specs.declared.misfit.Step.{Step}
 use Rattle.utoipa_findings.specs.Lines.{place_text}
-use Rattle.utoipa_findings.specs.Sources.{is_like_yaml, yaml_said, no_json, no_tree}
+use Rattle.utoipa_findings.specs.Sources.{no_json, no_tree}
 
 -- ---- places
 
@@ -25,21 +25,12 @@ some_place (x ∷ xs) n b said test is some = place_behind xs (step_of x) [] sai
 
 -- ---- texts
 
-by_utf8 : (name bytes : List ℕ) (b : Bool) → is_utf8 bytes ≡ b → no_tree name bytes ≡ if b then no_json name bytes else codes "this is no UTF-8\n"
-by_utf8 name bytes b e = ap (λ t. if t then no_json name bytes else codes "this is no UTF-8\n") e
+no_utf8_by : (bytes : List ℕ) (b : Bool) → is_utf8 bytes ≡ b → (IsUtf8 bytes → ⊥) → no_tree bytes ≡ codes "this is no UTF-8\n"
+no_utf8_by bytes true e h = absurd (h (IsUtf8-from_is_utf8 bytes e))
+no_utf8_by bytes false e h = ap (λ t. if t then no_json bytes else codes "this is no UTF-8\n") e
 
-no_utf8_by : (name bytes : List ℕ) (b : Bool) → is_utf8 bytes ≡ b → (IsUtf8 bytes → ⊥) → no_tree name bytes ≡ codes "this is no UTF-8\n"
-no_utf8_by name bytes true e h = absurd (h (IsUtf8-from_is_utf8 bytes e))
-no_utf8_by name bytes false e h = by_utf8 name bytes false e
-
-pub no_utf8 : (name bytes : List ℕ) → (IsUtf8 bytes → ⊥) → no_tree name bytes ≡ codes "this is no UTF-8\n"
-no_utf8 name bytes h = no_utf8_by name bytes (is_utf8 bytes) refl h
-
-pub said_of_yaml : (name bytes : List ℕ) → is_like_yaml bytes ≡ true → no_json name bytes ≡ yaml_said name
-said_of_yaml name bytes e = ap (λ b. if b then yaml_said name else codes "this is no JSON\n") e
-
-pub said_of_other : (name bytes : List ℕ) → is_like_yaml bytes ≡ false → no_json name bytes ≡ codes "this is no JSON\n"
-said_of_other name bytes e = ap (λ b. if b then yaml_said name else codes "this is no JSON\n") e
+pub no_utf8 : (bytes : List ℕ) → (IsUtf8 bytes → ⊥) → no_tree bytes ≡ codes "this is no UTF-8\n"
+no_utf8 bytes h = no_utf8_by bytes (is_utf8 bytes) refl h
 
 -- ---- lines, one after the other
 

@@ -27,8 +27,8 @@ pub no_tree_without : (bytes : List ℕ) → (IsUtf8 bytes → ⊥) → tree_of 
 no_tree_without bytes h = without_by bytes (is_utf8 bytes) refl h
 
 -- what is said of a text that has none
-pub said_of_text : (name bytes : List ℕ) → IsUtf8 bytes → no_tree name bytes ≡ no_json name bytes
-said_of_text name bytes utf8 = ap (λ b. if b then no_json name bytes else codes "this is no UTF-8\n") (is_utf8-from_IsUtf8 bytes utf8)
+pub said_of_text : (bytes : List ℕ) → IsUtf8 bytes → no_tree bytes ≡ no_json bytes
+said_of_text bytes utf8 = ap (λ b. if b then no_json bytes else codes "this is no UTF-8\n") (is_utf8-from_IsUtf8 bytes utf8)
 
 -- ---- what is told by it
 

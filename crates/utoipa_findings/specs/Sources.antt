@@ -1,5 +1,5 @@
 -- The bytes of a file as a text, and a text as a document.
-use Rattle.std.specs.Prelude.{◌≡◌, ℕ, List, [], ◌∷◌, ◌++◌, ◌==◌, ◌||◌, Bool, false, not, if◌then◌else◌, Option, None, Some, codes, decimal}
+use Rattle.std.specs.Prelude.{◌≡◌, ℕ, List, [], ◌∷◌, ◌++◌, ◌==◌, ◌||◌, Bool, if◌then◌else◌, Option, None, Some, codes, decimal}
 use Rattle.std.specs.Str.{is_utf8}
 use Rattle.serde_json.specs.Data.{Data}
 use Rattle.serde_json.specs.Read.{read as read_text}
@@ -35,30 +35,27 @@ abbrev pub first_byte : List ℕ → Option ℕ
 first_byte [] = None
 first_byte (c ∷ cs) = if is_blank c then first_byte cs else Some c
 
--- whether a text that is no JSON is rather YAML, by its first byte: it begins with neither a brace nor a bracket
-abbrev pub is_no_bracket : Option ℕ → Bool
-is_no_bracket None = false
-is_no_bracket (Some c) = not (c == 123 || c == 91)
-
-abbrev pub is_like_yaml : List ℕ → Bool
-is_like_yaml bytes = is_no_bracket (first_byte bytes)
-
 -- what tells of a file at one of its lines and columns
 abbrev pub text_line : (name : List ℕ) → (line column : ℕ) → (said : List ℕ) → List ℕ
 text_line name line column said = shown name ++ (codes ":" ++ (decimal line ++ (codes ":" ++ (decimal column ++ (codes ": " ++ said)))))
 
--- that a text looks like YAML, and the command that reads it
-abbrev pub yaml_said : (name : List ℕ) → List ℕ
-yaml_said name = codes "this is no JSON, and looks like YAML, which is not read: yq -o json " ++ (shown name ++ codes " | openapi check -\n")
+-- what is said of a text that is no JSON, by its first byte that is no white space: `{` or `[`, `<`, `/`, or another
+abbrev pub looks : Option ℕ → List ℕ
+looks None = codes "this is no JSON: there is nothing in it"
+looks (Some c) =
+    if c == 123 || c == 91 then codes "this is no JSON"
+    else if c == 60 then codes "this is no JSON, and looks like HTML or XML"
+    else if c == 47 then codes "this is no JSON, which has no comments"
+    else codes "this is no JSON, and looks like YAML, which is not read: `yq -o json` of mikefarah/yq makes JSON of it"
 
 -- what is said of a text that is no JSON, to the end of the line
-abbrev pub no_json : (name bytes : List ℕ) → List ℕ
-no_json name bytes = if is_like_yaml bytes then yaml_said name else codes "this is no JSON\n"
+abbrev pub no_json : (bytes : List ℕ) → List ℕ
+no_json bytes = looks (first_byte bytes) ++ codes "\n"
 
 -- what is said of bytes that have no tree
-abbrev pub no_tree : (name bytes : List ℕ) → List ℕ
-no_tree name bytes = if is_utf8 bytes then no_json name bytes else codes "this is no UTF-8\n"
+abbrev pub no_tree : (bytes : List ℕ) → List ℕ
+no_tree bytes = if is_utf8 bytes then no_json bytes else codes "this is no UTF-8\n"
 
 -- the line of a file that has no tree; at which line and column it is told to be broken, is not defined
 abbrev pub IsTreelessLine : (name bytes told : List ℕ) → Type 0
-IsTreelessLine name bytes told = (line column : ℕ) × (told ≡ text_line name line column (no_tree name bytes))
+IsTreelessLine name bytes told = (line column : ℕ) × (told ≡ text_line name line column (no_tree bytes))

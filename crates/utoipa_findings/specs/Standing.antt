@@ -11,7 +11,7 @@ use Rattle.utoipa_base.specs.Writing.{write}
 use Rattle.utoipa_check.specs.Has.{IsAlike, Written, Has}
 use Rattle.utoipa_check.specs.Places.{members_at}
 use Rattle.utoipa_conflicts.specs.Conflicts.{conflicts, is_joined}
-use Rattle.utoipa_conflicts.specs.Holders.{EachMember, IsNamedOnce}
+use Rattle.utoipa_conflicts.specs.Holders.{EachMember}
 use Rattle.utoipa_conflicts.specs.Merged.{written}
 use Rattle.utoipa_conflicts.specs.Nested.{behind, nested_conflicts}
 use Rattle.utoipa_conflicts.specs.NestedInto.{IsNoExtension}
@@ -80,7 +80,6 @@ StandsBehind base m t = EachMember (λ name x. MemberBehind base (bytes_eq name 
 pub record AreMergedWhole (texts : List (List ℕ)) (trees : List Data) (documents : List Doc) (d : Doc) : Type 0 where
   pub files : AreUnlost texts trees documents
   pub each : All IsOpenApi documents
-  pub once : All IsNamedOnce (written documents)
   pub merged : IsMerged documents d
   pub ordered : IsInKeyOrder d
   pub nothing : conflicts (written documents) ≡ []
@@ -98,8 +97,6 @@ pub record AreNestedWhole (base own_text other_text : List ℕ) (own_tree other_
   pub other_file : IsUnlost other_text other_tree other
   pub own_kind : IsOpenApi own
   pub other_kind : IsOpenApi other
-  pub own_once : IsNamedOnce (write own)
-  pub other_once : IsNamedOnce (write other)
   pub own_ordered : IsInKeyOrder own
   pub other_ordered : IsInKeyOrder other
   pub answered : All IsNoExtension (behind base (write other))

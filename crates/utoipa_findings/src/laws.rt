@@ -10,6 +10,7 @@ ghost use Rattle.utoipa_base.specs.WellFormed.{ReadsAs};
 ghost use Rattle.utoipa_base.specs.Writing.{write};
 ghost use Rattle.utoipa_check.specs.Shown.{AreLines};
 ghost use Rattle.utoipa_conflicts.specs.Conflicts.{Conflict};
+ghost use Rattle.utoipa_merging.specs.Sorted.{IsSorted};
 ghost use Rattle.utoipa_findings.specs.ComesBack.{ComesBack};
 ghost use Rattle.utoipa_findings.specs.Findings.{Finding, findings, text_findings, text_losses};
 ghost use Rattle.utoipa_findings.specs.InText.{HasText};
@@ -26,19 +27,23 @@ use utoipa_base::Tree;
 /// Of a tree in which nothing is found, of whatever kind, this holds: the tree has no fraction, and reads as a document, which is well-formed.
 /// Each value of the tree stands at its place in the tree that the document is written as. That one has no other place, but for a null under
 /// `description` where the tree has no such member, with which external docs are written. So it is the tree itself, but for such nulls and for
-/// the order of members; which order objects have, no clause says here.
+/// the order of members.
 ///
 /// A text in which nothing is found has each name once in an object, so each value of the text stands at its place in the tree.
 ///
 /// A value that was read of the tree is that document. What the value is written as reads as the value again, in every member.
 ///
 /// The first and the third hold of a document that loses nothing, too, whatever else is found in it.
+///
+/// The tree of a text and what its document is written as have the members of each object in the order of their names; so each name stands once.
 pub fn nothing_found_comes_back<T: Tree>(tree: &Value, value: &T)
     ensures document { (k : Kind) → findings k (view tree.now) ≡ [] → (d : Doc) × ComesBack k (view tree.now) d }
     ensures text { (k : Kind) (text : List ℕ) (t : Data) → tree_of text ≡ Some t → text_findings k text t ≡ []
         → (d : Doc) × ComesBack k t d × HasText t text }
     ensures unlost { (k : Kind) (text : List ℕ) (t : Data) (d : Doc) → tree_of text ≡ Some t → ReadsAs k t d → text_losses k text t ≡ []
         → ComesBack k t d × HasText t text }
+    ensures ordered { (k : Kind) (text : List ℕ) (t : Data) (d : Doc) → tree_of text ≡ Some t → read k t ≡ Some d
+        → IsSorted t × IsSorted (write d) }
     ensures value { findings T.kind (view tree.now) ≡ [] → read T.kind (view tree.now) ≡ Some (T.doc value.now)
         → ComesBack T.kind (view tree.now) (T.doc value.now) }
     ensures again { findings T.kind (view tree.now) ≡ [] → read T.kind (view tree.now) ≡ Some (T.doc value.now)

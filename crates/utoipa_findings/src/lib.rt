@@ -5,8 +5,8 @@
 //! `specs/Findings.antt`). [`document_of`] reads a file, and tells with a refusal every place that does not fit; [`tree_of_document`] answers the
 //! tree of one that fits.
 //!
-//! [`lost_of`] tells what a file loses when its document is written again, [`conflict_lines`] what merging the documents of files drops, and
-//! [`nested_conflict_lines`] what nesting one into another drops.
+//! [`document_with_losses`] reads a file too, and tells what it loses when its document is written again ([`lost_of`] tells it alone),
+//! [`conflict_lines`] what merging the documents of files drops, and [`nested_conflict_lines`] what nesting one into another drops.
 //!
 //! A document in which nothing is found comes back ([`laws`]): it is written as its tree, but for a null that external docs have, and reads
 //! from there as itself.
@@ -28,7 +28,7 @@ mod text;
 
 pub use conflict::{conflict_lines, nested_conflict_lines};
 pub use finding::{Finding, What};
-pub use lost::{losses, lost_of};
+pub use lost::{document_with_losses, losses, lost_of};
 pub use reading::{document_of, tree_of_document};
 pub use refusal::Refusal;
 pub use repeated::repeated_names;

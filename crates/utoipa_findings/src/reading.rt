@@ -1,8 +1,10 @@
 //! The document that a file is, or why it is none.
-ghost use Rattle.std.specs.Prelude.{◌≡◌, Some, IfOk, IfErr, OnOk, string_bytes};
+ghost use Rattle.std.specs.Prelude.{◌≡◌, false, Some, IfOk, IfErr, OnOk, string_bytes};
 ghost use Rattle.std.specs.Str.{IsUtf8};
 ghost use Rattle.serde_json.specs.View.{view};
 ghost use Rattle.utoipa_base.specs.Docs.{Doc};
+ghost use Rattle.serde_json.specs.Written.{has_float};
+ghost use Rattle.utoipa_base.specs.Reading.{read};
 ghost use Rattle.utoipa_base.specs.WellFormed.{ReadsAs};
 ghost use Rattle.utoipa_findings.specs.Findings as specs;
 ghost use Rattle.utoipa_findings.specs.Lines.{lines_of as lines_text};
@@ -57,6 +59,26 @@ pub fn document_of<T: Tree>(alloc: Global, kind: Kind, source: Source<'_>) -> Re
         Ok(document) => Ok(document),
         Err(ReadFault::Memory) => Err(Refusal::Memory),
         Err(_) => Err(Refusal::Told(why_refused(alloc, kind, source.name, text)?)),
+    }
+}
+
+/// The document of a type that a tree is. The kind is that of the type. Fails where it is none, with a line for each place that does not fit, and
+/// where memory runs out.
+pub(crate) fn document_of_tree<T: Tree>(
+    alloc: Global,
+    kind: Kind,
+    name: &str,
+    tree: &Value,
+) -> Result<T, Refusal>
+    requires { kind_of kind ≡ T.kind }
+    ensures plain { OnOk result (has_float (view tree.now) ≡ false) }
+    ensures ok { IfOk result (λ document. read T.kind (view tree.now) ≡ Some (T.doc document)) }
+    ensures err { IfErr result (Tells (IsUnfit (kind_of kind) name.now (view tree.now))) }
+{
+    match T::from_value(alloc, tree) {
+        Ok(document) => Ok(document),
+        Err(ReadFault::Memory) => Err(Refusal::Memory),
+        Err(_) => Err(Refusal::Told(refusal_lines(alloc, kind, name, tree)?)),
     }
 }
 

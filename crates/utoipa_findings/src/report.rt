@@ -76,6 +76,23 @@ fn dropped_where_read<'t, T: Tree>(
     }
 }
 
+/// Adds places whose trees are dropped. Fails where memory runs out.
+pub(crate) fn put_places<'a>(
+    places: Vec<Dropped<'a>>,
+    found: &mut Vec<Finding<'a>>,
+) -> Result<(), AllocError>
+    ensures { OnOk result (all_findings found.new.items
+        ≡ all_findings found.old.items ++ map specs.lost_at (all_dropped places.entry.items)) }
+{
+    for dropped in places {
+        found.push(Finding {
+            pointer: dropped.pointer,
+            what: What::Lost(dropped.loss),
+        })?;
+    }
+    Ok(())
+}
+
 /// Adds what is dropped. Fails where memory runs out.
 pub(crate) fn put_dropped<'a, T: Tree>(
     alloc: Global,
@@ -85,13 +102,7 @@ pub(crate) fn put_dropped<'a, T: Tree>(
     ensures { OnOk result (all_findings found.new.items
         ≡ all_findings found.old.items ++ map specs.lost_at (specs.dropped_where_read T.kind (view tree.now))) }
 {
-    for dropped in dropped_where_read::<T>(alloc, tree)? {
-        found.push(Finding {
-            pointer: dropped.pointer,
-            what: What::Lost(dropped.loss),
-        })?;
-    }
-    Ok(())
+    put_places(dropped_where_read::<T>(alloc, tree)?, found)
 }
 
 /// Adds the references that lead to nothing. Fails where memory runs out.

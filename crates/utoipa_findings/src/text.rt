@@ -32,13 +32,18 @@ fn first_byte(text: &[u8]) -> Option<u8>
     None
 }
 
-/// Whether a text that is no JSON is rather YAML: it begins with neither a brace nor a bracket.
-fn is_like_yaml(text: &[u8]) -> bool
-    ensures { result ≡ specs.is_like_yaml text.now }
+/// What is said of a text that is no JSON, by its first byte that is no white space.
+fn looks(first: Option<u8>) -> &'static str
+    ensures { result.now ≡ specs.looks first }
 {
-    match first_byte(text) {
-        Some(byte) => byte != b'{' && byte != b'[',
-        None => false,
+    match first {
+        None => "this is no JSON: there is nothing in it",
+        Some(b'{' | b'[') => "this is no JSON",
+        Some(b'<') => "this is no JSON, and looks like HTML or XML",
+        Some(b'/') => "this is no JSON, which has no comments",
+        Some(_) => {
+            "this is no JSON, and looks like YAML, which is not read: `yq -o json` of mikefarah/yq makes JSON of it"
+        }
     }
 }
 
@@ -66,15 +71,11 @@ fn no_json_line(
     column: usize,
 ) -> Result<String, AllocError>
     ensures { IfOk result
-        (λ told. string_bytes told ≡ specs.text_line name.now line column (specs.no_json name.now text.now)) }
+        (λ told. string_bytes told ≡ specs.text_line name.now line column (specs.no_json text.now)) }
 {
     let name = Shown(name);
-    if is_like_yaml(text.as_bytes()) {
-        return format!(in alloc;
-            "{name}:{line}:{column}: this is no JSON, and looks like YAML, which is not read: yq -o json {name} | openapi check -\n"
-        );
-    }
-    format!(in alloc; "{name}:{line}:{column}: this is no JSON\n")
+    let said = looks(first_byte(text.as_bytes()));
+    format!(in alloc; "{name}:{line}:{column}: {said}\n")
 }
 
 /// The line that tells of bytes that they are no UTF-8 from a place on. Fails where memory runs out.

@@ -40,7 +40,11 @@ fn text_of(alloc: Global, layout: Layout, document: &OpenApi) -> Result<String, 
 }
 
 /// A document as JSON, and a newline. Fails where memory runs out.
-pub(crate) fn written(alloc: Global, layout: Layout, document: &OpenApi) -> Result<String, Refusal>
+pub(crate) fn json_line(
+    alloc: Global,
+    layout: Layout,
+    document: &OpenApi,
+) -> Result<String, Refusal>
     ensures ok { IfOk result (λ text. has_float (write (openapi_doc document.now)) ≡ false
         → string_bytes text ≡ laid_out layout (write (openapi_doc document.now))) }
     ensures err { IfErr result (λ refusal. refusal ≡ Refusal.Memory) }

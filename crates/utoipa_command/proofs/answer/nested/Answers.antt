@@ -6,7 +6,8 @@ use Rattle.utoipa_command.proofs.Counts.{has_third, no_first, no_second, none_to
 use Rattle.utoipa_command.proofs.Documents.{all_plain, answers_nested, count_refused, if_ok, memory_refused, neither_has_fraction, refused, two_documents}
 use Rattle.utoipa_command.specs.declared.refusal.Refusal.TheVariants.{Count}
 use Rattle.utoipa_command.proofs.TextsRead.{input_passed_on, tree_refused}
-use Rattle.utoipa_command.proofs.Trees.{cause_in_tree, is_sorted}
+use Rattle.utoipa_findings.proofs.SortedWritten.{text_tree_sorted}
+use Rattle.utoipa_command.proofs.Trees.{cause_in_tree}
 use Rattle.utoipa_command.proofs.answer.nested.Goals as goal
 use Rattle.utoipa_command.proofs.answer.nested.Goals.{in_default-via-in-Some+in-Some+in_default, in_default-via-in-Some+in_default, in_default-via-in_default}
 
@@ -37,7 +38,7 @@ returns-in-Some-Some-None-clause-ok c =
     record {
       tree = read.tree;
       has = read.has;
-      answers = answers_nested c.args.base.now read.tree (openapi_doc two.own) (openapi_doc two.nested) _ _ read.reads.0 (is_sorted _ read.tree read.has)
+      answers = answers_nested c.args.base.now read.tree (openapi_doc two.own) (openapi_doc two.nested) _ _ read.reads.0 (text_tree_sorted _ read.tree read.has)
           (two_documents openapi_doc read.tree c.in_ok-document_of.field-0 two.own two.nested both read.reads.1)
           (openapi_of_kind two.own) (openapi_of_kind two.nested) nested.ok nested.ordered printed;
     })

@@ -1,6 +1,7 @@
 use Rattle.serde_json.specs.View.{view}
 use Rattle.utoipa_findings.proofs.ComesBack.{comes_back, some_comes_back, reads_again}
 use Rattle.utoipa_findings.proofs.InText.{text_comes_back, unlost_text}
+use Rattle.utoipa_findings.proofs.SortedWritten.{text_tree_sorted, written_sorted}
 use Rattle.utoipa_findings.proofs.laws.nothing_found_comes_back.Goals as goal
 
 pub returns-clause-document : goal.returns-clause-document
@@ -11,6 +12,9 @@ returns-clause-text g c = text_comes_back
 
 pub returns-clause-unlost : goal.returns-clause-unlost
 returns-clause-unlost g c = unlost_text
+
+pub returns-clause-ordered : goal.returns-clause-ordered
+returns-clause-ordered g c k text t d has reads = let sorted = text_tree_sorted text t has in (sorted, written_sorted k t d sorted reads)
 
 pub returns-clause-value : goal.returns-clause-value
 returns-clause-value g c = comes_back g.T.Documented.kind (view c.args.tree.now) (g.T.Documented.doc c.args.value.now)

@@ -1,17 +1,10 @@
-use Rattle.std.proofs.Common.{◌≡◌, ◌∙◌, codes, string_bytes, ap, sym}
+use Rattle.std.proofs.Common.{◌≡◌, ◌∙◌, ◌++◌, ℕ, List, codes, string_bytes, ap}
 use Rattle.std.proofs.lemmas.Result.{IfOk-weaker}
-use Rattle.utoipa_findings.specs.Sources.{is_like_yaml, text_line, yaml_said}
-use Rattle.utoipa_findings.proofs.Said.{said_of_yaml, said_of_other}
+use Rattle.utoipa_findings.specs.Sources.{first_byte, looks, text_line}
 use Rattle.utoipa_findings.proofs.text.no_json_line.Goals as goal
-
-pub returns-then-is_like_yaml : goal.returns-then-is_like_yaml
-returns-then-is_like_yaml c =
-    let line = text_line c.args.name.now c.args.line c.args.column in
-    let yaml = ap is_like_yaml (sym c.as_bytes.ensures.value) ∙ sym c.is_like_yaml.ensures ∙ c.if-is_like_yaml.true in
-    IfOk-weaker c.format.result (λ told. string_bytes told ≡ line (yaml_said c.args.name.now)) _ (λ told is. is ∙ ap line (sym (said_of_yaml c.args.name.now c.args.text.now yaml))) c.format.ensures.ok
 
 pub returns : goal.returns
 returns c =
-    let line = text_line c.args.name.now c.args.line c.args.column in
-    let other = ap is_like_yaml (sym c.as_bytes.ensures.value) ∙ sym c.is_like_yaml.ensures ∙ c.if-is_like_yaml.false in
-    IfOk-weaker c.format-2.result (λ told. string_bytes told ≡ line (codes "this is no JSON\n")) _ (λ told is. is ∙ ap line (sym (said_of_other c.args.name.now c.args.text.now other))) c.format-2.ensures.ok
+    let line : List ℕ → List ℕ = λ said. text_line c.args.name.now c.args.line c.args.column (said ++ codes "\n") in
+    let said : c.looks-said.result.now ≡ looks (first_byte c.args.text.now) = c.looks-said.ensures ∙ ap looks (c.first_byte.ensures ∙ ap first_byte c.as_bytes.ensures.value) in
+    IfOk-weaker c.format.result (λ told. string_bytes told ≡ line c.looks-said.result.now) _ (λ told is. is ∙ ap line said) c.format.ensures.ok

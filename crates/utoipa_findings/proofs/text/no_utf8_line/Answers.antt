@@ -9,4 +9,4 @@ returns c =
     let name = c.args.source.name.now in
     let line = c.position-line.result.0 in
     let column = c.position-line.result.1 in
-    IfOk-weaker c.format.result (λ told. string_bytes told ≡ text_line name line column (codes "this is no UTF-8\n")) _ (λ told is. (line, column, is ∙ ap (text_line name line column) (sym (no_utf8 name c.args.source.bytes.now c.requires)))) c.format.ensures.ok
+    IfOk-weaker c.format.result (λ told. string_bytes told ≡ text_line name line column (codes "this is no UTF-8\n")) _ (λ told is. (line, column, is ∙ ap (text_line name line column) (sym (no_utf8 c.args.source.bytes.now c.requires)))) c.format.ensures.ok

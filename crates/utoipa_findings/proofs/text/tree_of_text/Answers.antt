@@ -6,5 +6,5 @@ use Rattle.utoipa_findings.proofs.text.tree_of_text.Goals as goal
 pub returns-in_ok-line-in-Err-2-clause-err : goal.returns-in_ok-line-in-Err-2-clause-err
 returns-in_ok-line-in-Err-2-clause-err c =
     let none = c.in-Err.ensures.err (λ memory. true≢false (sym (c.is_memory.ensures.1 memory) ∙ c.if-is_memory.false)) in
-    let said = ap (text_line c.args.name.now c.line.result c.column.result) (sym (said_of_text c.args.name.now c.args.text.now c.requires)) in
+    let said = ap (text_line c.args.name.now c.line.result c.column.result) (sym (said_of_text c.args.text.now c.requires)) in
     (tree_by_text c.args.text.now None c.requires none, (c.line.result, c.column.result, c.in_ok-line-in-Err-2.ensures ∙ said))
