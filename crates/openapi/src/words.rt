@@ -29,6 +29,7 @@ fn check<'a>(alloc: Global) -> Result<Command<'a>, AllocError> {
         .about(
             "Tells what does not fit, is read otherwise than it was meant, is dropped or refers to nothing",
         )
+        .arg(as_is(alloc))?
         .arg(files(alloc, "The documents"))
 }
 
@@ -72,12 +73,14 @@ fn operations<'a>(alloc: Global) -> Result<Command<'a>, AllocError> {
         .about(
             "Writes a line for each operation: its method, path, operationId and summary, with tabs between",
         )
+        .arg(as_is(alloc))?
         .arg(file(alloc, "FILE", "The document"))
 }
 
 fn stats<'a>(alloc: Global) -> Result<Command<'a>, AllocError> {
     Command::new(alloc, "stats")
         .about("Counts the paths, webhooks, operations, schemas, depth and bytes of a document")
+        .arg(as_is(alloc))?
         .arg(file(alloc, "FILE", "The document"))
 }
 
@@ -92,6 +95,16 @@ fn files<'a>(alloc: Global, help: &'a str) -> Arg<'a> {
         .required(true)
         .num_args(1..)
         .help(help)
+}
+
+// How files are looked at.
+fn as_is<'a>(alloc: Global) -> Arg<'a> {
+    Arg::new(alloc, "as-is")
+        .long("as-is")
+        .action(ArgAction::SetTrue)
+        .help(
+            "Read by the model alone, and refuse what the standard lets be said otherwise, as a parameter without required",
+        )
 }
 
 // With the options of a command that writes a document.
@@ -109,5 +122,16 @@ fn with_output<'a>(alloc: Global, command: Command<'a>) -> Result<Command<'a>, A
         .long("strict")
         .action(ArgAction::SetTrue)
         .help("Refuse where something is lost");
-    command.arg(output)?.arg(compact)?.arg(strict)
+    let allowed = Arg::new(alloc, "WHAT")
+        .long("allow")
+        .action(ArgAction::Append)
+        .help(
+            "Accept that this is lost, and don't tell it: a member of the document as info, a beginning of JSON Pointers as /paths/~1pets, or unknown-members, which the model does not keep",
+        );
+    command
+        .arg(output)?
+        .arg(compact)?
+        .arg(strict)?
+        .arg(allowed)?
+        .arg(as_is(alloc))
 }
