@@ -18,7 +18,8 @@ const BYTE_ORDER_MARK: &[u8] = b"\xEF\xBB\xBF";
 pub fn perform(rt: &HostRuntime, matches: &ArgMatches<'_>) -> Result<ExitCode> {
     match matches.subcommand() {
         Some(("check", words)) => check(rt, words),
-        Some(("format", words)) => format(rt, words),
+        // What is upgraded is in normal form, too.
+        Some(("format" | "upgrade", words)) => format(rt, words),
         Some(("merge", words)) => merge(rt, words),
         Some(("nest", words)) => nest(rt, words),
         Some(("operations", words)) => operations(rt, words),
@@ -32,6 +33,8 @@ pub fn perform(rt: &HostRuntime, matches: &ArgMatches<'_>) -> Result<ExitCode> {
 fn form(words: &ArgMatches<'_>) -> Form {
     if words.get_flag("as-is") {
         Form::AsIs
+    } else if words.get_flag("upgrade") {
+        Form::Upgraded
     } else {
         Form::Adapted
     }
@@ -138,14 +141,9 @@ fn check(rt: &HostRuntime, words: &ArgMatches<'_>) -> Result<ExitCode> {
     })
 }
 
-// What of a loss is accepted.
-fn allowed<'m, 'a>(words: &'m ArgMatches<'a>) -> &'m [&'a str] {
-    words.get_strs("WHAT").unwrap_or(&[])
-}
-
-// Whether nothing may be lost.
+// Whether nothing at all may be lost.
 fn is_strict(words: &ArgMatches<'_>) -> bool {
-    words.get_flag("strict") && allowed(words).is_empty()
+    words.get_flag("strict") && words.get_strs("WHAT").is_none()
 }
 
 // Tells what is lost, and writes the document where it is to be written, or tells why there is none.
@@ -157,7 +155,8 @@ fn answer_document(
 ) -> Result<ExitCode> {
     match made {
         Ok(written) => {
-            let lost = not_allowed(rt.alloc(), sources, allowed(words), written.lost.as_str())?;
+            let allowed = words.get_strs("WHAT").unwrap_or(&[]);
+            let lost = not_allowed(rt.alloc(), sources, allowed, written.lost.as_str())?;
             eprint!(rt; "{lost}")?;
             if words.get_flag("strict") && !lost.is_empty() {
                 return Ok(ExitCode::FAILURE);
@@ -194,6 +193,20 @@ fn read_all(rt: &HostRuntime, names: &[&str]) -> Result<Option<Vec<Vec<u8>>>> {
     Ok(all.then_some(files))
 }
 
+// Files by their names and bytes.
+fn sources_of<'a>(
+    rt: &HostRuntime,
+    words: &ArgMatches<'_>,
+    names: &[&'a str],
+    files: &'a [Vec<u8>],
+) -> Result<Vec<Source<'a>>> {
+    let mut sources = Vec::new(rt.alloc());
+    for (name, bytes) in names.iter().zip(files.iter()) {
+        sources.push(source(words, *name, bytes.as_slice()))?;
+    }
+    Ok(sources)
+}
+
 fn merge(rt: &HostRuntime, words: &ArgMatches<'_>) -> Result<ExitCode> {
     let names = words.get_strs("FILE").unwrap_or(&[]);
     if is_read_twice(rt, names)? {
@@ -202,10 +215,7 @@ fn merge(rt: &HostRuntime, words: &ArgMatches<'_>) -> Result<ExitCode> {
     let Some(files) = read_all(rt, names)? else {
         return Ok(ExitCode::FAILURE);
     };
-    let mut sources = Vec::new(rt.alloc());
-    for (name, bytes) in names.iter().zip(files.iter()) {
-        sources.push(source(words, *name, bytes.as_slice()))?;
-    }
+    let sources = sources_of(rt, words, names, files.as_slice())?;
     merge_sources(rt, words, sources.as_slice())
 }
 
@@ -246,15 +256,26 @@ fn nest(rt: &HostRuntime, words: &ArgMatches<'_>) -> Result<ExitCode> {
     if is_read_twice(rt, &[name, nested_name])? {
         return Ok(ExitCode::from(2));
     }
-    let both = (read(rt, name)?, read(rt, nested_name)?);
-    let (Some(bytes), Some(nested_bytes)) = both else {
+    let Some(files) = read_all(rt, &[name, nested_name])? else {
         return Ok(ExitCode::FAILURE);
     };
-    let own = source(words, name, bytes.as_slice());
-    let nested = source(words, nested_name, nested_bytes.as_slice());
-    let strict = is_strict(words);
-    let made = files::nest(rt.alloc(), layout(words), strict, base, own, nested);
-    answer_document(rt, words, &[own, nested], made)
+    let sources = sources_of(rt, words, &[name, nested_name], files.as_slice())?;
+    nest_sources(rt, words, base, sources.as_slice())
+}
+
+// Nests the second of two files into the first, and tells what is lost by that.
+fn nest_sources(
+    rt: &HostRuntime,
+    words: &ArgMatches<'_>,
+    base: &str,
+    sources: &[Source<'_>],
+) -> Result<ExitCode> {
+    let [own, nested] = sources else {
+        // No call is without both.
+        return Ok(ExitCode::from(2));
+    };
+    let made = files::nest(rt.alloc(), layout(words), is_strict(words), base, *own, *nested);
+    answer_document(rt, words, sources, made)
 }
 
 fn operations(rt: &HostRuntime, words: &ArgMatches<'_>) -> Result<ExitCode> {

@@ -3,13 +3,16 @@ use Rattle.std.specs.Prelude.{◌≡◌, ℕ, List, [], ◌∷◌, ◌++◌, ◌
 use Rattle.std.specs.Str.{is_utf8}
 use Rattle.serde_json.specs.Data.{Data}
 use Rattle.serde_json.specs.Read.{read as read_text}
-use Rattle.utoipa_adapt.specs.Adapted.{adapted}
+use Rattle.serde_json.specs.Find.{get}
+use Rattle.utoipa_adapt.specs.Adapted.{adapted, upgraded}
+use Rattle.utoipa_adapt.specs.Rules.{is_3_0}
+use Rattle.utoipa_adapt.specs.Trees.{is_text, passes}
 use Rattle.utoipa_base.specs.Docs.{Doc}
 use Rattle.utoipa_base.specs.Kinds.{Kind}
 use Rattle.utoipa_base.specs.WellFormed.{ReadsAs}
 use Rattle.utoipa_check.specs.Shown.{shown}
 use Rattle.utoipa_findings.specs.declared.source.Form.{Form}
-use Rattle.utoipa_findings.specs.declared.source.Form.TheVariants.{AsIs, Adapted}
+use Rattle.utoipa_findings.specs.declared.source.Form.TheVariants.{AsIs, Adapted, Upgraded}
 use Rattle.utoipa_findings.specs.declared.source.Source.{Source}
 
 -- the tree of the bytes, if they are UTF-8 and JSON
@@ -31,10 +34,20 @@ File = List ℕ × List ℕ × Form
 abbrev pub file_of : Source → File
 file_of s = (s.name.now, s.bytes.now, s.form)
 
--- a tree that is to be a document of a kind, as it is looked at: as it is, or adapted to what the model reads, with its meaning
+-- whether a tree is that of an OpenAPI 3.0 document, by its version
+abbrev pub is_of_3_0 : Data → Bool
+is_of_3_0 t = passes (is_text is_3_0) (get (codes "openapi") t)
+
+-- a tree, upgraded to one of 3.1 if it is of 3.0
+abbrev pub upgraded_from_3_0 : Kind → Data → Data
+upgraded_from_3_0 k t = if is_of_3_0 t then upgraded k t else t
+
+-- a tree that is to be a document of a kind, as it is looked at: as it is, or adapted to what the model reads, with its meaning; and before that
+-- upgraded
 abbrev pub seen : Form → Kind → Data → Data
 seen AsIs k t = t
 seen Adapted k t = adapted k t
+seen Upgraded k t = adapted k (upgraded_from_3_0 k t)
 
 -- the tree of a file that is to be a document of a kind, if its bytes are UTF-8 and JSON
 abbrev pub file_tree : Kind → File → Option Data

@@ -8,6 +8,8 @@ pub enum Form {
     /// Adapted to what the model reads, with its meaning: what the standard lets people say in several ways is read in each of them
     /// (`utoipa_adapt`).
     Adapted,
+    /// The same, and of OpenAPI 3.0 by the member `openapi` upgraded to 3.1 before that.
+    Upgraded,
 }
 
 /// A file: its name and all that stands in it, and the form in which its tree is looked at.

@@ -12,7 +12,7 @@ use crate::source::{Form, Source};
 use serde_json::Value;
 use simdutf8::compat::from_utf8;
 use std::alloc::{AllocError, Global};
-use utoipa_adapt::{adapt, adaptations};
+use utoipa_adapt::{Rule, adapt, adaptations, upgrade};
 use utoipa_check::Shown;
 use utoipa_tables::Kind;
 
@@ -134,6 +134,27 @@ fn adapted(alloc: Global, kind: Kind, tree: Value) -> Result<Value, AllocError>
     adapt(alloc, kind, tree)
 }
 
+/// Whether a tree is that of an OpenAPI 3.0 document, by its version.
+fn is_of_3_0(tree: &Value) -> bool
+    ensures { result ≡ specs.is_of_3_0 (view tree.now) }
+{
+    match tree.get("openapi") {
+        Some(version) => Rule::VersionOf30.applies(version),
+        None => false,
+    }
+}
+
+/// A tree that is to be a document of a kind, upgraded to one of 3.1 if it is of 3.0. Fails where memory runs out.
+fn upgraded(alloc: Global, kind: Kind, tree: Value) -> Result<Value, AllocError>
+    ensures { IfOk result (λ v. view v ≡ specs.upgraded_from_3_0 (kind_of kind) (view tree)) }
+{
+    if is_of_3_0(&tree) {
+        upgrade(alloc, kind, tree)
+    } else {
+        Ok(tree)
+    }
+}
+
 /// A tree that is to be a document of a kind, as it is looked at. Fails where memory runs out.
 fn seen(alloc: Global, form: Form, kind: Kind, tree: Value) -> Result<Value, AllocError>
     ensures { IfOk result (λ v. view v ≡ specs.seen form (kind_of kind) (view tree)) }
@@ -141,6 +162,7 @@ fn seen(alloc: Global, form: Form, kind: Kind, tree: Value) -> Result<Value, All
     match form {
         Form::AsIs => Ok(tree),
         Form::Adapted => adapted(alloc, kind, tree),
+        Form::Upgraded => adapted(alloc, kind, upgraded(alloc, kind, tree)?),
     }
 }
 

@@ -1,9 +1,9 @@
 use Rattle.std.proofs.Common.{◌∙◌, sym, ap, not}
 use Rattle.serde_json.specs.View.{view}
 use Rattle.serde_json.proofs.Views.{view-Object}
-use Rattle.utoipa_adapt.specs.Rules.{lacks}
+use Rattle.utoipa_adapt.specs.Trees.{lacks}
 use Rattle.utoipa_adapt.proofs.Turns.{named_there}
-use Rattle.utoipa_adapt.proofs.rules.lacks.Goals as goal
+use Rattle.utoipa_adapt.proofs.looking.lacks.Goals as goal
 
 pub returns-in-Object : goal.returns-in-Object
 returns-in-Object c =

@@ -2,7 +2,7 @@ use Rattle.std.proofs.Common.{◌∙◌, ap}
 use Rattle.serde_json.specs.Data.{put}
 use Rattle.serde_json.specs.View.{view, members_view}
 use Rattle.serde_json.proofs.Views.{members_view-insert_entry}
-use Rattle.utoipa_adapt.proofs.changing.with_entry.Goals as goal
+use Rattle.utoipa_adapt.proofs.editing.with_entry.Goals as goal
 
 pub returns : goal.returns
 returns c =
