@@ -18,8 +18,9 @@ const BYTE_ORDER_MARK: &[u8] = b"\xEF\xBB\xBF";
 pub fn perform(rt: &HostRuntime, matches: &ArgMatches<'_>) -> Result<ExitCode> {
     match matches.subcommand() {
         Some(("check", words)) => check(rt, words),
+        Some(("format", words)) => format(rt, words, form(words)),
         // What is upgraded is in normal form, too.
-        Some(("format" | "upgrade", words)) => format(rt, words),
+        Some(("upgrade", words)) => format(rt, words, Form::Upgraded),
         Some(("merge", words)) => merge(rt, words),
         Some(("nest", words)) => nest(rt, words),
         Some(("operations", words)) => operations(rt, words),
@@ -41,11 +42,11 @@ fn form(words: &ArgMatches<'_>) -> Form {
 }
 
 // A file, without a mark that its bytes are UTF-8.
-fn source<'a>(words: &ArgMatches<'_>, name: &'a str, bytes: &'a [u8]) -> Source<'a> {
+fn source<'a>(form: Form, name: &'a str, bytes: &'a [u8]) -> Source<'a> {
     Source {
         name,
         bytes: bytes.strip_prefix(BYTE_ORDER_MARK).unwrap_or(bytes),
-        form: form(words),
+        form,
     }
 }
 
@@ -112,11 +113,11 @@ fn read(rt: &HostRuntime, name: &str) -> Result<Option<Vec<u8>>> {
 }
 
 // Checks a file, and says whether something was found: that it can't be read, for one.
-fn check_file(rt: &HostRuntime, words: &ArgMatches<'_>, name: &str) -> Result<bool> {
+fn check_file(rt: &HostRuntime, form: Form, name: &str) -> Result<bool> {
     let Some(bytes) = read(rt, name)? else {
         return Ok(true);
     };
-    let file = source(words, name, bytes.as_slice());
+    let file = source(form, name, bytes.as_slice());
     let lines = files::check(rt.alloc(), file)?;
     write(rt, None, lines.as_str())?;
     tell_version(rt, &file, lines.as_str())?;
@@ -132,7 +133,7 @@ fn check(rt: &HostRuntime, words: &ArgMatches<'_>) -> Result<ExitCode> {
     let mut found = false;
     for (at, name) in names.iter().enumerate() {
         progress.step(rt, "are checked", at, names.len());
-        found |= check_file(rt, words, name)?;
+        found |= check_file(rt, form(words), name)?;
     }
     Ok(if found {
         ExitCode::FAILURE
@@ -168,12 +169,12 @@ fn answer_document(
     }
 }
 
-fn format(rt: &HostRuntime, words: &ArgMatches<'_>) -> Result<ExitCode> {
+fn format(rt: &HostRuntime, words: &ArgMatches<'_>, form: Form) -> Result<ExitCode> {
     let name = words.get_str("FILE").unwrap_or("-");
     let Some(bytes) = read(rt, name)? else {
         return Ok(ExitCode::FAILURE);
     };
-    let file = source(words, name, bytes.as_slice());
+    let file = source(form, name, bytes.as_slice());
     let made = files::format(rt.alloc(), layout(words), is_strict(words), file);
     answer_document(rt, words, &[file], made)
 }
@@ -196,13 +197,13 @@ fn read_all(rt: &HostRuntime, names: &[&str]) -> Result<Option<Vec<Vec<u8>>>> {
 // Files by their names and bytes.
 fn sources_of<'a>(
     rt: &HostRuntime,
-    words: &ArgMatches<'_>,
+    form: Form,
     names: &[&'a str],
     files: &'a [Vec<u8>],
 ) -> Result<Vec<Source<'a>>> {
     let mut sources = Vec::new(rt.alloc());
     for (name, bytes) in names.iter().zip(files.iter()) {
-        sources.push(source(words, *name, bytes.as_slice()))?;
+        sources.push(source(form, *name, bytes.as_slice()))?;
     }
     Ok(sources)
 }
@@ -215,7 +216,7 @@ fn merge(rt: &HostRuntime, words: &ArgMatches<'_>) -> Result<ExitCode> {
     let Some(files) = read_all(rt, names)? else {
         return Ok(ExitCode::FAILURE);
     };
-    let sources = sources_of(rt, words, names, files.as_slice())?;
+    let sources = sources_of(rt, form(words), names, files.as_slice())?;
     merge_sources(rt, words, sources.as_slice())
 }
 
@@ -259,7 +260,7 @@ fn nest(rt: &HostRuntime, words: &ArgMatches<'_>) -> Result<ExitCode> {
     let Some(files) = read_all(rt, &[name, nested_name])? else {
         return Ok(ExitCode::FAILURE);
     };
-    let sources = sources_of(rt, words, &[name, nested_name], files.as_slice())?;
+    let sources = sources_of(rt, form(words), &[name, nested_name], files.as_slice())?;
     nest_sources(rt, words, base, sources.as_slice())
 }
 
@@ -283,7 +284,7 @@ fn operations(rt: &HostRuntime, words: &ArgMatches<'_>) -> Result<ExitCode> {
     let Some(bytes) = read(rt, name)? else {
         return Ok(ExitCode::FAILURE);
     };
-    let file = source(words, name, bytes.as_slice());
+    let file = source(form(words), name, bytes.as_slice());
     let made = files::operations(rt.alloc(), file);
     answer_list(rt, file, made)
 }
@@ -293,7 +294,7 @@ fn stats(rt: &HostRuntime, words: &ArgMatches<'_>) -> Result<ExitCode> {
     let Some(bytes) = read(rt, name)? else {
         return Ok(ExitCode::FAILURE);
     };
-    let file = source(words, name, bytes.as_slice());
+    let file = source(form(words), name, bytes.as_slice());
     let made = files::stats(rt.alloc(), file);
     answer_list(rt, file, made)
 }

@@ -17,19 +17,19 @@ pub fn tell_version(rt: &HostRuntime, source: &Source<'_>, lines: &str) -> Resul
     }
     let name = Shown(source.name);
     match version_of(rt, source.bytes) {
-        Some(version) => Ok(eprintln!(rt; "openapi: {name} is of {version}, which is not read")?),
+        Some(hint) => Ok(eprintln!(rt; "openapi: {name} is of {hint}")?),
         None => Ok(()),
     }
 }
 
-// The version that is not read, of a file that is of one.
+// Of a file that is of a version that is not read: the version, and what helps.
 fn version_of(rt: &HostRuntime, bytes: &[u8]) -> Option<&'static str> {
     let text = str::from_utf8(bytes).ok()?;
     let tree = Value::from_str(rt.alloc(), text).ok()?;
     if begins(&tree, "swagger", "2.") {
-        Some("Swagger 2.0")
+        Some("Swagger 2.0, which is not read")
     } else if begins(&tree, "openapi", "3.0") {
-        Some("OpenAPI 3.0")
+        Some("OpenAPI 3.0: `openapi upgrade` writes 3.1, and --upgrade reads it so")
     } else {
         None
     }
