@@ -1,13 +1,14 @@
 -- A sorted tree is sorted as it is looked at: adapting and upgrading keep the order of names.
-use Rattle.std.proofs.Common.{◌≡◌, ℕ, List, [], ◌∷◌, Bool, true, false, if◌then◌else◌, Option, Some, None, option_map, IfSome, codes, refl, sym, ap, subst, Ordering, Less, Equal, Greater, nat_cmp}
+use Rattle.std.proofs.Common.{◌++◌, ◌≡◌, ℕ, List, [], ◌∷◌, Bool, true, false, if◌then◌else◌, Option, Some, None, option_map, IfSome, codes, refl, sym, ap, subst, Ordering, Less, Equal, Greater, nat_cmp}
 use Rattle.std.proofs.lemmas.Option.{same_Some}
 use Rattle.std.specs.List.Sorted.{IsStrictlySortedBy}
 use Rattle.std.specs.Ordering.{match_ordering}
 use Rattle.std.specs.Cmp.Lexicographic.{slice_cmp}
+use Rattle.std.specs.Str.{str_to_ascii_lowercase}
 use Rattle.serde_json.specs.Data.{Data, null, boolean, number, string, array, object, Items, no_items, item, Members, no_members, member}
-use Rattle.serde_json.specs.Find.{get_member}
+use Rattle.serde_json.specs.Find.{get, get_member}
 use Rattle.utoipa_adapt.specs.Adapted.{own_kind, item_kind, member_kind, within, made_items, made_members, made}
-use Rattle.utoipa_adapt.specs.Rules.{RuleSet, of_model, of_upgrade, Rule, paths_absent, responses_absent, required_absent, version_of_two, scheme_in_other_case, schema_true, const_alone, items_absent, version_of_3_0, beside_reference, binary_format, byte_format, exclusive_minimum, idle_exclusive_minimum, exclusive_maximum, idle_exclusive_maximum, schema_example, null_in_enum, nullable_type, nullable_reference, idle_nullable, applies, combination, null_type, null_schema, changed, by_rules, rules_in}
+use Rattle.utoipa_adapt.specs.Rules.{RuleSet, of_model, of_upgrade, Rule, paths_absent, responses_absent, required_absent, version_of_two, scheme_in_other_case, schema_true, const_alone, items_absent, version_of_3_0, beside_reference, binary_format, byte_format, exclusive_minimum, idle_exclusive_minimum, exclusive_maximum, idle_exclusive_maximum, schema_example, null_in_enum, nullable_type, nullable_reference, idle_nullable, applies, combination, listed, moved, replaced, taken_away, null_type, null_schema, changed, by_rules, rules_in}
 use Rattle.utoipa_adapt.specs.Trees.{only_one, without, without_all, put_some, edited, with_member, only_member, with_text, then_item, with_item, list_of_one, list_of_two}
 use Rattle.utoipa_base.specs.Kinds.{Kind}
 use Rattle.utoipa_merging.specs.Merged.{Ascends, names_in}
@@ -121,30 +122,55 @@ combination_sorted : (d : Data) → IsSorted d → IfSome (combination d) IsSort
 combination_sorted d h =
     one_sorted (get (codes "allOf") d) (get (codes "oneOf") d) (get (codes "anyOf") d) (got_sorted (codes "allOf") d h) (got_sorted (codes "oneOf") d h) (got_sorted (codes "anyOf") d h)
 
+listed_sorted : (from to : List ℕ) (d : Data) → IsSorted d → IsSorted (listed from to d)
+listed_sorted from to d h = edited_sorted (from ∷ []) to (option_map list_of_one (get from d)) d (some_made list_of_one (get from d) (λ x s. (s, tt)) (got_sorted from d h)) h
+
+moved_sorted : (from to : List ℕ) (d : Data) → IsSorted d → IsSorted (moved from to d)
+moved_sorted from to d h = edited_sorted (from ∷ []) to (get from d) d (got_sorted from d h) h
+
+replaced_sorted : (from to text : List ℕ) (d : Data) → IsSorted d → IsSorted (replaced from to text d)
+replaced_sorted from to text d h = edited_sorted (from ∷ []) to (Some (string text)) d tt h
+
+taken_away_sorted : (name : List ℕ) (d : Data) → IsSorted d → IsSorted (taken_away name d)
+taken_away_sorted name d h = edited_sorted (name ∷ []) name None d tt h
+
+null_in_enum_sorted : (d : Data) → IsSorted d → IsSorted (changed null_in_enum d)
+null_in_enum_sorted d h =
+    edited_sorted (codes "enum" ∷ []) (codes "enum") (option_map (with_item null) (get (codes "enum") d)) d
+    (some_made (with_item null) (get (codes "enum") d) (λ x s. with_item_sorted null x tt s) (got_sorted (codes "enum") d h)) h
+
+nullable_type_sorted : (d : Data) → IsSorted d → IsSorted (changed nullable_type d)
+nullable_type_sorted d h =
+    edited_sorted (codes "type" ∷ codes "nullable" ∷ []) (codes "type") (option_map (λ t. list_of_two t null_type) (get (codes "type") d)) d
+    (some_made (λ t. list_of_two t null_type) (get (codes "type") d) (λ x s. (s, (tt, tt))) (got_sorted (codes "type") d h)) h
+
+nullable_reference_sorted : (d : Data) → IsSorted d → IsSorted (changed nullable_reference d)
+nullable_reference_sorted d h =
+    edited_sorted (codes "allOf" ∷ codes "oneOf" ∷ codes "anyOf" ∷ codes "nullable" ∷ []) (codes "anyOf") (option_map (with_item null_schema) (combination d)) d
+    (some_made (with_item null_schema) (combination d) (λ x s. with_item_sorted null_schema x null_sorted s) (combination_sorted d h)) h
+
 changed_sorted : (r : Rule) (d : Data) → IsSorted d → IsSorted (changed r d)
 changed_sorted paths_absent d h = with_member_sorted (codes "paths") (object no_members) d empty_sorted h
 changed_sorted responses_absent d h = with_member_sorted (codes "responses") (object no_members) d empty_sorted h
 changed_sorted required_absent d h = with_member_sorted (codes "required") (boolean false) d tt h
-changed_sorted version_of_two d h = with_text_sorted _ d h
-changed_sorted scheme_in_other_case d h = with_text_sorted _ d h
+changed_sorted version_of_two d h = with_text_sorted (λ s. s ++ codes ".0") d h
+changed_sorted scheme_in_other_case d h = with_text_sorted str_to_ascii_lowercase d h
 changed_sorted schema_true d h = empty_sorted
-changed_sorted const_alone d h = edited_sorted _ _ _ d (some_made list_of_one (get (codes "const") d) (λ x s. (s, tt)) (got_sorted (codes "const") d h)) h
+changed_sorted const_alone d h = listed_sorted (codes "const") (codes "enum") d h
 changed_sorted items_absent d h = with_member_sorted (codes "items") (object no_members) d empty_sorted h
-changed_sorted version_of_3_0 d h = with_text_sorted _ d h
+changed_sorted version_of_3_0 d h = with_text_sorted (λ s. codes "3.1.0") d h
 changed_sorted beside_reference d h = only_member_sorted (codes "$ref") d h
-changed_sorted binary_format d h = edited_sorted _ _ _ d tt h
-changed_sorted byte_format d h = edited_sorted _ _ _ d tt h
-changed_sorted exclusive_minimum d h = edited_sorted _ _ _ d (got_sorted (codes "minimum") d h) h
-changed_sorted idle_exclusive_minimum d h = edited_sorted _ _ None d tt h
-changed_sorted exclusive_maximum d h = edited_sorted _ _ _ d (got_sorted (codes "maximum") d h) h
-changed_sorted idle_exclusive_maximum d h = edited_sorted _ _ None d tt h
-changed_sorted schema_example d h = edited_sorted _ _ _ d (some_made list_of_one (get (codes "example") d) (λ x s. (s, tt)) (got_sorted (codes "example") d h)) h
-changed_sorted null_in_enum d h = edited_sorted _ _ _ d (some_made (with_item null) (get (codes "enum") d) (λ x s. with_item_sorted null x tt s) (got_sorted (codes "enum") d h)) h
-changed_sorted nullable_type d h =
-    edited_sorted _ _ _ d (some_made (λ t. list_of_two t null_type) (get (codes "type") d) (λ x s. (s, (tt, tt))) (got_sorted (codes "type") d h)) h
-changed_sorted nullable_reference d h =
-    edited_sorted _ _ _ d (some_made (with_item null_schema) (combination d) (λ x s. with_item_sorted null_schema x null_sorted s) (combination_sorted d h)) h
-changed_sorted idle_nullable d h = edited_sorted _ _ None d tt h
+changed_sorted binary_format d h = replaced_sorted (codes "format") (codes "contentMediaType") (codes "application/octet-stream") d h
+changed_sorted byte_format d h = replaced_sorted (codes "format") (codes "contentEncoding") (codes "base64") d h
+changed_sorted exclusive_minimum d h = moved_sorted (codes "minimum") (codes "exclusiveMinimum") d h
+changed_sorted idle_exclusive_minimum d h = taken_away_sorted (codes "exclusiveMinimum") d h
+changed_sorted exclusive_maximum d h = moved_sorted (codes "maximum") (codes "exclusiveMaximum") d h
+changed_sorted idle_exclusive_maximum d h = taken_away_sorted (codes "exclusiveMaximum") d h
+changed_sorted schema_example d h = listed_sorted (codes "example") (codes "examples") d h
+changed_sorted null_in_enum d h = null_in_enum_sorted d h
+changed_sorted nullable_type d h = nullable_type_sorted d h
+changed_sorted nullable_reference d h = nullable_reference_sorted d h
+changed_sorted idle_nullable d h = taken_away_sorted (codes "nullable") d h
 
 rule_sorted : (b : Bool) (r : Rule) (d : Data) → IsSorted d → IsSorted (if b then changed r d else d)
 rule_sorted true r d h = changed_sorted r d h
