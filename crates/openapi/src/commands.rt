@@ -1,13 +1,15 @@
 //! What calls the answers with the files.
 
+use crate::allowed::not_allowed;
 use crate::files::{bytes_of, write};
+use crate::hints::tell_version;
 use crate::progress::Progress;
 use anyhow::Result;
 use clap::ArgMatches;
 use std::process::ExitCode;
 use utoipa_check::Shown;
 use utoipa_command::files;
-use utoipa_command::files::{Layout, Refusal, Source, Written};
+use utoipa_command::files::{Form, Layout, Refusal, Source, Written};
 
 // What a text in UTF-8 may begin with, to say that it is one.
 const BYTE_ORDER_MARK: &[u8] = b"\xEF\xBB\xBF";
@@ -16,13 +18,35 @@ const BYTE_ORDER_MARK: &[u8] = b"\xEF\xBB\xBF";
 pub fn perform(rt: &HostRuntime, matches: &ArgMatches<'_>) -> Result<ExitCode> {
     match matches.subcommand() {
         Some(("check", words)) => check(rt, words),
-        Some(("format", words)) => format(rt, words),
+        Some(("format", words)) => format(rt, words, form(words)),
+        // What is upgraded is in normal form, too.
+        Some(("upgrade", words)) => format(rt, words, Form::Upgraded),
         Some(("merge", words)) => merge(rt, words),
         Some(("nest", words)) => nest(rt, words),
         Some(("operations", words)) => operations(rt, words),
         Some(("stats", words)) => stats(rt, words),
         // Each subcommand stands above.
         _ => Ok(ExitCode::from(2)),
+    }
+}
+
+// The form in which the trees of files are looked at.
+fn form(words: &ArgMatches<'_>) -> Form {
+    if words.get_flag("as-is") {
+        Form::AsIs
+    } else if words.get_flag("upgrade") {
+        Form::Upgraded
+    } else {
+        Form::Adapted
+    }
+}
+
+// A file, without a mark that its bytes are UTF-8.
+fn source<'a>(form: Form, name: &'a str, bytes: &'a [u8]) -> Source<'a> {
+    Source {
+        name,
+        bytes: bytes.strip_prefix(BYTE_ORDER_MARK).unwrap_or(bytes),
+        form,
     }
 }
 
@@ -35,33 +59,33 @@ fn layout(words: &ArgMatches<'_>) -> Layout {
     }
 }
 
-// Tells why there is no answer.
-fn refuse(rt: &HostRuntime, refusal: Refusal) -> Result<ExitCode> {
+// Tells why files have no answer.
+fn refuse(rt: &HostRuntime, sources: &[Source<'_>], refusal: Refusal) -> Result<ExitCode> {
     match refusal {
-        Refusal::Told(lines) => eprint!(rt; "{lines}")?,
+        Refusal::Told(lines) => {
+            eprint!(rt; "{lines}")?;
+            for source in sources {
+                tell_version(rt, source, lines.as_str())?;
+            }
+        }
         Refusal::Memory => eprintln!(rt; "openapi: out of memory")?,
     }
     Ok(ExitCode::FAILURE)
 }
 
-// Writes an answer to a file where one is named, and else to standard output, or tells why there is none.
-fn answer(
+// Writes what is listed of a file to standard output, or tells why there is nothing.
+fn answer_list(
     rt: &HostRuntime,
-    output: Option<&str>,
+    source: Source<'_>,
     made: Result<String, Refusal>,
 ) -> Result<ExitCode> {
     match made {
-        Ok(text) => {
-            write(rt, output, text.as_str())?;
+        Ok(lines) => {
+            write(rt, None, lines.as_str())?;
             Ok(ExitCode::SUCCESS)
         }
-        Err(refusal) => refuse(rt, refusal),
+        Err(refusal) => refuse(rt, &[source], refusal),
     }
-}
-
-// The bytes of a file, without a mark that they are UTF-8.
-fn unmarked(bytes: &[u8]) -> &[u8] {
-    bytes.strip_prefix(BYTE_ORDER_MARK).unwrap_or(bytes)
 }
 
 // Whether standard input is named more than once, which is told: it can be read once.
@@ -89,13 +113,14 @@ fn read(rt: &HostRuntime, name: &str) -> Result<Option<Vec<u8>>> {
 }
 
 // Checks a file, and says whether something was found: that it can't be read, for one.
-fn check_file(rt: &HostRuntime, name: &str) -> Result<bool> {
+fn check_file(rt: &HostRuntime, form: Form, name: &str) -> Result<bool> {
     let Some(bytes) = read(rt, name)? else {
         return Ok(true);
     };
-    let bytes = unmarked(bytes.as_slice());
-    let lines = files::check(rt.alloc(), Source { name, bytes })?;
+    let file = source(form, name, bytes.as_slice());
+    let lines = files::check(rt.alloc(), file)?;
     write(rt, None, lines.as_str())?;
+    tell_version(rt, &file, lines.as_str())?;
     Ok(!lines.is_empty())
 }
 
@@ -108,7 +133,7 @@ fn check(rt: &HostRuntime, words: &ArgMatches<'_>) -> Result<ExitCode> {
     let mut found = false;
     for (at, name) in names.iter().enumerate() {
         progress.step(rt, "are checked", at, names.len());
-        found |= check_file(rt, name)?;
+        found |= check_file(rt, form(words), name)?;
     }
     Ok(if found {
         ExitCode::FAILURE
@@ -117,31 +142,41 @@ fn check(rt: &HostRuntime, words: &ArgMatches<'_>) -> Result<ExitCode> {
     })
 }
 
+// Whether nothing at all may be lost.
+fn is_strict(words: &ArgMatches<'_>) -> bool {
+    words.get_flag("strict") && words.get_strs("WHAT").is_none()
+}
+
 // Tells what is lost, and writes the document where it is to be written, or tells why there is none.
 fn answer_document(
     rt: &HostRuntime,
     words: &ArgMatches<'_>,
+    sources: &[Source<'_>],
     made: Result<Written, Refusal>,
 ) -> Result<ExitCode> {
     match made {
         Ok(written) => {
-            let lost = written.lost;
+            let allowed = words.get_strs("WHAT").unwrap_or(&[]);
+            let lost = not_allowed(rt.alloc(), sources, allowed, written.lost.as_str())?;
             eprint!(rt; "{lost}")?;
-            answer(rt, words.get_str("OUT"), Ok(written.text))
+            if words.get_flag("strict") && !lost.is_empty() {
+                return Ok(ExitCode::FAILURE);
+            }
+            write(rt, words.get_str("OUT"), written.text.as_str())?;
+            Ok(ExitCode::SUCCESS)
         }
-        Err(refusal) => refuse(rt, refusal),
+        Err(refusal) => refuse(rt, sources, refusal),
     }
 }
 
-fn format(rt: &HostRuntime, words: &ArgMatches<'_>) -> Result<ExitCode> {
+fn format(rt: &HostRuntime, words: &ArgMatches<'_>, form: Form) -> Result<ExitCode> {
     let name = words.get_str("FILE").unwrap_or("-");
     let Some(bytes) = read(rt, name)? else {
         return Ok(ExitCode::FAILURE);
     };
-    let bytes = unmarked(bytes.as_slice());
-    let strict = words.get_flag("strict");
-    let made = files::format(rt.alloc(), layout(words), strict, Source { name, bytes });
-    answer_document(rt, words, made)
+    let file = source(form, name, bytes.as_slice());
+    let made = files::format(rt.alloc(), layout(words), is_strict(words), file);
+    answer_document(rt, words, &[file], made)
 }
 
 // The bytes of some files, or none where some of them can't be read, each of which is told.
@@ -159,6 +194,20 @@ fn read_all(rt: &HostRuntime, names: &[&str]) -> Result<Option<Vec<Vec<u8>>>> {
     Ok(all.then_some(files))
 }
 
+// Files by their names and bytes.
+fn sources_of<'a>(
+    rt: &HostRuntime,
+    form: Form,
+    names: &[&'a str],
+    files: &'a [Vec<u8>],
+) -> Result<Vec<Source<'a>>> {
+    let mut sources = Vec::new(rt.alloc());
+    for (name, bytes) in names.iter().zip(files.iter()) {
+        sources.push(source(form, *name, bytes.as_slice()))?;
+    }
+    Ok(sources)
+}
+
 fn merge(rt: &HostRuntime, words: &ArgMatches<'_>) -> Result<ExitCode> {
     let names = words.get_strs("FILE").unwrap_or(&[]);
     if is_read_twice(rt, names)? {
@@ -167,11 +216,7 @@ fn merge(rt: &HostRuntime, words: &ArgMatches<'_>) -> Result<ExitCode> {
     let Some(files) = read_all(rt, names)? else {
         return Ok(ExitCode::FAILURE);
     };
-    let mut sources = Vec::new(rt.alloc());
-    for (name, bytes) in names.iter().zip(files.iter()) {
-        let bytes = unmarked(bytes.as_slice());
-        sources.push(Source { name: *name, bytes })?;
-    }
+    let sources = sources_of(rt, form(words), names, files.as_slice())?;
     merge_sources(rt, words, sources.as_slice())
 }
 
@@ -194,10 +239,9 @@ fn merge_sources(
         // No call is without a file.
         return Ok(ExitCode::from(2));
     }
-    let strict = words.get_flag("strict");
     Progress::new(rt).begin(rt, "merging", size_of(sources));
-    let made = files::merge(rt.alloc(), layout(words), strict, sources);
-    answer_document(rt, words, made)
+    let made = files::merge(rt.alloc(), layout(words), is_strict(words), sources);
+    answer_document(rt, words, sources, made)
 }
 
 fn nest(rt: &HostRuntime, words: &ArgMatches<'_>) -> Result<ExitCode> {
@@ -213,19 +257,26 @@ fn nest(rt: &HostRuntime, words: &ArgMatches<'_>) -> Result<ExitCode> {
     if is_read_twice(rt, &[name, nested_name])? {
         return Ok(ExitCode::from(2));
     }
-    let both = (read(rt, name)?, read(rt, nested_name)?);
-    let (Some(bytes), Some(nested_bytes)) = both else {
+    let Some(files) = read_all(rt, &[name, nested_name])? else {
         return Ok(ExitCode::FAILURE);
     };
-    let bytes = unmarked(bytes.as_slice());
-    let own = Source { name, bytes };
-    let nested = Source {
-        name: nested_name,
-        bytes: unmarked(nested_bytes.as_slice()),
+    let sources = sources_of(rt, form(words), &[name, nested_name], files.as_slice())?;
+    nest_sources(rt, words, base, sources.as_slice())
+}
+
+// Nests the second of two files into the first, and tells what is lost by that.
+fn nest_sources(
+    rt: &HostRuntime,
+    words: &ArgMatches<'_>,
+    base: &str,
+    sources: &[Source<'_>],
+) -> Result<ExitCode> {
+    let [own, nested] = sources else {
+        // No call is without both.
+        return Ok(ExitCode::from(2));
     };
-    let strict = words.get_flag("strict");
-    let made = files::nest(rt.alloc(), layout(words), strict, base, own, nested);
-    answer_document(rt, words, made)
+    let made = files::nest(rt.alloc(), layout(words), is_strict(words), base, *own, *nested);
+    answer_document(rt, words, sources, made)
 }
 
 fn operations(rt: &HostRuntime, words: &ArgMatches<'_>) -> Result<ExitCode> {
@@ -233,9 +284,9 @@ fn operations(rt: &HostRuntime, words: &ArgMatches<'_>) -> Result<ExitCode> {
     let Some(bytes) = read(rt, name)? else {
         return Ok(ExitCode::FAILURE);
     };
-    let bytes = unmarked(bytes.as_slice());
-    let made = files::operations(rt.alloc(), Source { name, bytes });
-    answer(rt, None, made)
+    let file = source(form(words), name, bytes.as_slice());
+    let made = files::operations(rt.alloc(), file);
+    answer_list(rt, file, made)
 }
 
 fn stats(rt: &HostRuntime, words: &ArgMatches<'_>) -> Result<ExitCode> {
@@ -243,7 +294,7 @@ fn stats(rt: &HostRuntime, words: &ArgMatches<'_>) -> Result<ExitCode> {
     let Some(bytes) = read(rt, name)? else {
         return Ok(ExitCode::FAILURE);
     };
-    let bytes = unmarked(bytes.as_slice());
-    let made = files::stats(rt.alloc(), Source { name, bytes });
-    answer(rt, None, made)
+    let file = source(form(words), name, bytes.as_slice());
+    let made = files::stats(rt.alloc(), file);
+    answer_list(rt, file, made)
 }

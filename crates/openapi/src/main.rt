@@ -1,12 +1,14 @@
 //! What people do with the documents of their APIs: checks, formats, merges and nests the OpenAPI documents of files, and lists what they have.
 //!
 //! What each command answers is made by the functions of `utoipa_command::files`, of the names and the bytes of the files. Here are the words of a
-//! call (`words.rt`), what reads files and writes them (`files.rt`), how far long work has come (`progress.rt`), and what calls the answers with
-//! the files (`commands.rt`).
+//! call (`words.rt`), what reads files and writes them (`files.rt`), how far long work has come (`progress.rt`), which losses are accepted
+//! (`allowed.rt`), what helps with a file that is refused (`hints.rt`), and what calls the answers with the files (`commands.rt`).
 #![tactic(auto)]
 
+mod allowed;
 mod commands;
 mod files;
+mod hints;
 mod progress;
 mod words;
 

@@ -11,13 +11,14 @@ pub fn command<'a>(alloc: Global) -> Result<Command<'a>, AllocError> {
     Command::new(alloc, "openapi")
         .version("0.1.0")
         .about(
-            "Checks, formats, merges, nests and lists OpenAPI documents, versions 3.1 and 3.2, in JSON",
+            "Checks, formats, upgrades, merges, nests and lists OpenAPI documents, versions 3.1 and 3.2, in JSON",
         )
         .after_help(AFTER_HELP)
         .subcommand_required(true)
         .arg_required_else_help(true)
         .subcommand(check(alloc)?)?
         .subcommand(format(alloc)?)?
+        .subcommand(upgrade(alloc)?)?
         .subcommand(merge(alloc)?)?
         .subcommand(nest(alloc)?)?
         .subcommand(operations(alloc)?)?
@@ -25,11 +26,12 @@ pub fn command<'a>(alloc: Global) -> Result<Command<'a>, AllocError> {
 }
 
 fn check<'a>(alloc: Global) -> Result<Command<'a>, AllocError> {
-    Command::new(alloc, "check")
+    let command = Command::new(alloc, "check")
         .about(
             "Tells what does not fit, is read otherwise than it was meant, is dropped or refers to nothing",
         )
-        .arg(files(alloc, "The documents"))
+        .arg(files(alloc, "The documents"))?;
+    with_form(alloc, command)
 }
 
 fn format<'a>(alloc: Global) -> Result<Command<'a>, AllocError> {
@@ -37,6 +39,13 @@ fn format<'a>(alloc: Global) -> Result<Command<'a>, AllocError> {
         .about(
             "Writes a document in its normal form, the members of each object in the order of their names, and tells on standard error what that loses",
         )
+        .arg(file(alloc, "FILE", "The document"))?;
+    with_form(alloc, with_output(alloc, command)?)
+}
+
+fn upgrade<'a>(alloc: Global) -> Result<Command<'a>, AllocError> {
+    let command = Command::new(alloc, "upgrade")
+        .about("Writes a document of OpenAPI 3.0 as one of 3.1, in its normal form")
         .arg(file(alloc, "FILE", "The document"))?;
     with_output(alloc, command)
 }
@@ -50,7 +59,7 @@ fn merge<'a>(alloc: Global) -> Result<Command<'a>, AllocError> {
             alloc,
             "The documents, the first of which gives its info and version",
         ))?;
-    with_output(alloc, command)
+    with_form(alloc, with_output(alloc, command)?)
 }
 
 fn nest<'a>(alloc: Global) -> Result<Command<'a>, AllocError> {
@@ -64,21 +73,23 @@ fn nest<'a>(alloc: Global) -> Result<Command<'a>, AllocError> {
         .arg(base)?
         .arg(file(alloc, "FILE", "The document"))?
         .arg(file(alloc, "NESTED", "The document that is nested into it"))?;
-    with_output(alloc, command)
+    with_form(alloc, with_output(alloc, command)?)
 }
 
 fn operations<'a>(alloc: Global) -> Result<Command<'a>, AllocError> {
-    Command::new(alloc, "operations")
+    let command = Command::new(alloc, "operations")
         .about(
             "Writes a line for each operation: its method, path, operationId and summary, with tabs between",
         )
-        .arg(file(alloc, "FILE", "The document"))
+        .arg(file(alloc, "FILE", "The document"))?;
+    with_form(alloc, command)
 }
 
 fn stats<'a>(alloc: Global) -> Result<Command<'a>, AllocError> {
-    Command::new(alloc, "stats")
+    let command = Command::new(alloc, "stats")
         .about("Counts the paths, webhooks, operations, schemas, depth and bytes of a document")
-        .arg(file(alloc, "FILE", "The document"))
+        .arg(file(alloc, "FILE", "The document"))?;
+    with_form(alloc, command)
 }
 
 // One file.
@@ -92,6 +103,22 @@ fn files<'a>(alloc: Global, help: &'a str) -> Arg<'a> {
         .required(true)
         .num_args(1..)
         .help(help)
+}
+
+// With the options that say in which form files are looked at.
+fn with_form<'a>(alloc: Global, command: Command<'a>) -> Result<Command<'a>, AllocError> {
+    let as_is = Arg::new(alloc, "as-is")
+        .long("as-is")
+        .action(ArgAction::SetTrue)
+        .help(
+            "Read by the model alone, and refuse what the standard lets be said otherwise, as a parameter without required",
+        );
+    let upgrade = Arg::new(alloc, "upgrade")
+        .long("upgrade")
+        .action(ArgAction::SetTrue)
+        .conflicts_with("as-is")?
+        .help("Read documents of OpenAPI 3.0, too, as the command upgrade writes them");
+    command.arg(as_is)?.arg(upgrade)
 }
 
 // With the options of a command that writes a document.
@@ -109,5 +136,15 @@ fn with_output<'a>(alloc: Global, command: Command<'a>) -> Result<Command<'a>, A
         .long("strict")
         .action(ArgAction::SetTrue)
         .help("Refuse where something is lost");
-    command.arg(output)?.arg(compact)?.arg(strict)
+    let allowed = Arg::new(alloc, "WHAT")
+        .long("allow")
+        .action(ArgAction::Append)
+        .help(
+            "Accept that this is lost, and don't tell it: a member of the document as info, a beginning of JSON Pointers as /paths/~1pets, or unknown-members, which the model does not keep",
+        );
+    command
+        .arg(output)?
+        .arg(compact)?
+        .arg(strict)?
+        .arg(allowed)
 }

@@ -1,5 +1,7 @@
 pub mod Same
+pub mod Edited
 pub mod ByRule
+pub mod ByUpgrade
 pub mod Lawful
 pub mod Settled
 pub mod AtWork

@@ -1,3 +1,4 @@
+pub mod Trees
 pub mod Rules
 pub mod Adapted
 pub mod Views

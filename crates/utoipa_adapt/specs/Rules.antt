@@ -1,18 +1,26 @@
--- The rules of adapting, for whoever reads an adapted tree or adds a rule: which trees each rule changes, and into what. Each rule names the section
--- of the standard that gives both forms one meaning.
-use Rattle.std.specs.Prelude.{ℕ, List, [], ◌∷◌, ◌++◌, Bool, false, not, ◌&&◌, if◌then◌else◌, Option, None, Some, is_some, codes}
-use Rattle.std.specs.List.{list_any}
+-- The rules, for whoever reads an adapted or an upgraded tree or adds a rule: which trees each rule changes, and into what. Each rule names the
+-- section of the standard that gives both forms one meaning.
+use Rattle.std.specs.Prelude.{ℕ, List, [], ◌∷◌, ◌++◌, Bool, true, false, not, ◌&&◌, ◌||◌, if◌then◌else◌, nat_eq, Option, None, Some, option_map, codes}
+use Rattle.std.specs.List.{list_any, starts_with}
 use Rattle.std.specs.Str.{bytes_eq, str_eq_ignore_ascii_case, str_to_ascii_lowercase}
-use Rattle.std.specs.Ordering.{nat_cmp, match_ordering}
-use Rattle.std.specs.Cmp.Lexicographic.{slice_cmp}
-use Rattle.serde_json.specs.Data.{Data, null, boolean, number, string, array, object, no_items, item, Members, no_members, member, put}
-use Rattle.serde_json.specs.Find.{get, get_member}
-use Rattle.utoipa_base.specs.Kinds.{open_api_object, operation_object, parameter_object, http_auth_scheme, Kind, version, word_of, named, schema, array_items, additional_properties}
+use Rattle.serde_json.specs.Data.{Data, null, boolean, string, object, no_members, member}
+use Rattle.serde_json.specs.Find.{get}
+use Rattle.utoipa_adapt.specs.Trees.{has, lacks, has_any, is_true, is_false, is_number, is_text, lacks_null, is_one_reference, has_two, passes, says, only_one, edited, with_member, only_member, with_text, with_item, list_of_one, list_of_two}
+use Rattle.utoipa_base.specs.Kinds.{open_api_object, operation_object, parameter_object, reference_object, http_auth_scheme, Kind, version, word_of, named, schema, array_items, additional_properties}
 use Rattle.utoipa_base.specs.Words.{words}
 
 -- ---- the rules
 
+-- the rules that a tree is changed by
+pub data RuleSet : Type 0 where
+  -- to the form that the model reads
+  of_model : RuleSet
+  -- from OpenAPI 3.0 to 3.1
+  of_upgrade : RuleSet
+
 pub data Rule : Type 0 where
+  -- ---- to the form that the model reads: sections of OpenAPI 3.1
+
   -- OpenAPI Object (OpenAPI 3.1, section 4.8.1): without `paths` a document has no paths. A Paths Object may be empty (section 4.8.8).
   paths_absent : Rule
   -- Operation Object (section 4.8.10): without `responses` an operation tells no response
@@ -32,48 +40,40 @@ pub data Rule : Type 0 where
   -- JSON Schema 2020-12, Core, section 10.3.1.2: an absent `items` asserts what the empty schema does. As an annotation the two differ, which
   -- `unevaluatedItems` looks at, and the model keeps none.
   items_absent : Rule
+  -- ---- from OpenAPI 3.0 to 3.1: sections of OpenAPI 3.0.3
+
+  -- Versions (section 4.1): 3.0 with any third number. What is upgraded is of 3.1.
+  version_of_3_0 : Rule
+  -- Reference Object (section 4.7.23): what stands beside `$ref` is ignored. In 3.1 it is not, beside the `$ref` of a schema.
+  beside_reference : Rule
+  -- Data Types (section 4.4): `binary` is any sequence of octets. In 3.1 formats say nothing of encodings, and the standard's notes on migrating from 3.0
+  -- write a media type.
+  binary_format : Rule
+  -- Data Types (section 4.4): `byte` is a text in base64, which 3.1 says by `contentEncoding` (JSON Schema 2020-12, Validation, section 8.3)
+  byte_format : Rule
+  -- Schema Object (section 4.7.24) takes `exclusiveMinimum` from JSON Schema (Wright draft 00, Validation, section 5.5): true excludes the bound itself. In
+  -- 3.1 it is a bound of its own (JSON Schema 2020-12, Validation, section 6.2.5).
+  exclusive_minimum : Rule
+  -- false is its default there, and without a bound it excludes nothing
+  idle_exclusive_minimum : Rule
+  -- the same of `exclusiveMaximum` (Wright draft 00, section 5.3; 2020-12, section 6.2.3)
+  exclusive_maximum : Rule
+  idle_exclusive_maximum : Rule
+  -- Schema Object (section 4.7.24): `example`, which 3.1 deprecates in favour of `examples` (OpenAPI 3.1, section 4.8.24)
+  schema_example : Rule
+  -- `nullable` (section 4.7.24.1) adds null to the type alone, and read by the letter an `enum` without null still refuses null. Whoever writes both
+  -- means that null may stand there, and tools take it so. This rule goes by what is meant: null is put at the end.
+  null_in_enum : Rule
+  -- `nullable` (section 4.7.24.1) adds null to the type that stands beside it. 3.1 lists types.
+  nullable_type : Rule
+  -- `nullable` has no effect without a type. But 3.0 ignores what stands beside `$ref`, so people write a reference that may be null as a combination
+  -- of that reference alone, beside `nullable`, and tools take it so. This rule goes by what is meant: the reference or null. `oneOf` would refuse
+  -- null where the reference lets it in too, so it becomes `anyOf`.
+  nullable_reference : Rule
+  -- `nullable` has no effect where it is false, which is its default, and none without a type (section 4.7.24.1)
+  idle_nullable : Rule
 
 -- ---- what the rules look at
-
-abbrev pub has : List ℕ → Data → Bool
-has name d = is_some (get name d)
-
--- whether it is an object without a member of the name
-abbrev pub lacks : List ℕ → Data → Bool
-lacks name null = false
-lacks name (boolean b) = false
-lacks name (number n) = false
-lacks name (string s) = false
-lacks name (array ds) = false
-lacks name (object ms) = not (has name (object ms))
-
-abbrev pub has_any : List (List ℕ) → Data → Bool
-has_any names d = list_any (λ name. has name d) names
-
-abbrev pub is_true : Data → Bool
-is_true null = false
-is_true (boolean b) = b
-is_true (number n) = false
-is_true (string s) = false
-is_true (array ds) = false
-is_true (object ms) = false
-
--- whether it is a text that passes a test
-abbrev pub is_text : (List ℕ → Bool) → Data → Bool
-is_text test null = false
-is_text test (boolean b) = false
-is_text test (number n) = false
-is_text test (string s) = test s
-is_text test (array ds) = false
-is_text test (object ms) = false
-
-abbrev pub text_is : List ℕ → Option Data → Bool
-text_is word None = false
-text_is word (Some d) = is_text (λ s. bytes_eq s word) d
-
--- whether the member of a name is the word
-abbrev pub says : List ℕ → List ℕ → Data → Bool
-says name word d = text_is word (get name d)
 
 -- the versions that lack a third number
 abbrev pub versions_of_two : List (List ℕ)
@@ -105,6 +105,45 @@ beside_items =
     ∷ codes "writeOnly"
     ∷ codes "unevaluatedItems" ∷ []
 
+-- whether a text is a version 3.0
+abbrev pub is_3_0 : List ℕ → Bool
+is_3_0 s = bytes_eq s (codes "3.0") || starts_with nat_eq s (codes "3.0.")
+
+-- the combinations, of which the model reads a schema as one
+abbrev pub combinations : List (List ℕ)
+combinations = codes "oneOf" ∷ codes "allOf" ∷ codes "anyOf" ∷ []
+
+-- whether a schema of texts has a format, and the member of a name is absent. Beside a combination the model keeps neither.
+abbrev pub is_format_of_texts : (word name : List ℕ) → Data → Bool
+is_format_of_texts word name d = says (codes "format") word d && (says (codes "type") (codes "string") d && not (has_any (name ∷ combinations) d))
+
+-- whether a keyword is true, and so excludes the bound of another, which is a number
+abbrev pub excludes : (keyword bound : List ℕ) → Data → Bool
+excludes keyword bound d = passes is_true (get keyword d) && passes is_number (get bound d)
+
+-- whether a keyword is false, or true without a bound to exclude
+abbrev pub excludes_nothing : (keyword bound : List ℕ) → Data → Bool
+excludes_nothing keyword bound d = passes is_false (get keyword d) || (passes is_true (get keyword d) && not (has bound d))
+
+abbrev pub is_nullable : Data → Bool
+is_nullable d = passes is_true (get (codes "nullable") d)
+
+-- whether `nullable` adds null to a type, which is another one
+abbrev pub is_nullable_type : Data → Bool
+is_nullable_type d = is_nullable d && passes (is_text (λ s. not (bytes_eq s (codes "null")))) (get (codes "type") d)
+
+-- the only combination that a schema has
+abbrev pub combination : Data → Option Data
+combination d = only_one (get (codes "allOf") d) (get (codes "oneOf") d) (get (codes "anyOf") d)
+
+-- whether it has no type, and is a combination of one reference
+abbrev pub is_combined_reference : Data → Bool
+is_combined_reference d = not (has (codes "type") d) && passes is_one_reference (combination d)
+
+-- whether `nullable` is true where it adds null to nothing
+abbrev pub adds_nothing : Data → Bool
+adds_nothing d = says (codes "type") (codes "null") d || (not (has (codes "type") d) && not (is_combined_reference d))
+
 -- whether a rule changes a tree
 abbrev pub applies : Rule → Data → Bool
 applies paths_absent d = lacks (codes "paths") d
@@ -115,44 +154,45 @@ applies scheme_in_other_case d = is_text (is_other_case (words http_auth_scheme)
 applies schema_true d = is_true d
 applies const_alone d = lacks (codes "enum") d && (has (codes "const") d && not (has_any beside_enum d))
 applies items_absent d = lacks (codes "items") d && (says (codes "type") (codes "array") d && not (has_any beside_items d))
+applies version_of_3_0 d = is_text is_3_0 d
+applies beside_reference d = passes (is_text (λ s. true)) (get (codes "$ref") d) && has_two d
+applies binary_format d = is_format_of_texts (codes "binary") (codes "contentMediaType") d
+applies byte_format d = is_format_of_texts (codes "byte") (codes "contentEncoding") d
+applies exclusive_minimum d = excludes (codes "exclusiveMinimum") (codes "minimum") d
+applies idle_exclusive_minimum d = excludes_nothing (codes "exclusiveMinimum") (codes "minimum") d
+applies exclusive_maximum d = excludes (codes "exclusiveMaximum") (codes "maximum") d
+applies idle_exclusive_maximum d = excludes_nothing (codes "exclusiveMaximum") (codes "maximum") d
+applies schema_example d = has (codes "example") d && not (has (codes "examples") d)
+applies null_in_enum d = is_nullable_type d && passes lacks_null (get (codes "enum") d)
+applies nullable_type d = is_nullable_type d
+applies nullable_reference d = is_nullable d && is_combined_reference d
+applies idle_nullable d = passes is_false (get (codes "nullable") d) || (is_nullable d && adds_nothing d)
 
 -- ---- what the rules make
 
--- the members without that of the name
-abbrev pub without : List ℕ → Members → Members
-without name no_members = no_members
-without name (member l d ms) = match_ordering (slice_cmp nat_cmp name l) (member l d (without name ms)) ms (member l d (without name ms))
+-- an object with a list of the value of a member, under another name in its place
+abbrev pub listed : (from to : List ℕ) → Data → Data
+listed from to d = edited (from ∷ []) to (option_map list_of_one (get from d)) d
 
--- an object with the member
-abbrev pub with_member : List ℕ → Data → Data → Data
-with_member name v null = null
-with_member name v (boolean b) = boolean b
-with_member name v (number n) = number n
-with_member name v (string s) = string s
-with_member name v (array ds) = array ds
-with_member name v (object ms) = object (put name v ms)
+-- an object with the value of a member under another name in its place
+abbrev pub moved : (from to : List ℕ) → Data → Data
+moved from to d = edited (from ∷ []) to (get from d) d
 
--- a text, as the function says
-abbrev pub with_text : (List ℕ → List ℕ) → Data → Data
-with_text f null = null
-with_text f (boolean b) = boolean b
-with_text f (number n) = number n
-with_text f (string s) = string (f s)
-with_text f (array ds) = array ds
-with_text f (object ms) = object ms
+-- an object with a text under another name, in place of a member
+abbrev pub replaced : (from to text : List ℕ) → Data → Data
+replaced from to text d = edited (from ∷ []) to (Some (string text)) d
 
--- members with an `enum` of the value of their `const` in its place
-abbrev pub enum_of : Option Data → Members → Members
-enum_of None ms = ms
-enum_of (Some v) ms = put (codes "enum") (array (item v no_items)) (without (codes "const") ms)
+-- an object without the member of a name
+abbrev pub taken_away : List ℕ → Data → Data
+taken_away name d = edited (name ∷ []) name None d
 
-abbrev pub const_as_enum : Data → Data
-const_as_enum null = null
-const_as_enum (boolean b) = boolean b
-const_as_enum (number n) = number n
-const_as_enum (string s) = string s
-const_as_enum (array ds) = array ds
-const_as_enum (object ms) = object (enum_of (get_member (codes "const") ms) ms)
+-- the type that null alone is of
+abbrev pub null_type : Data
+null_type = string (codes "null")
+
+-- the schema of null
+abbrev pub null_schema : Data
+null_schema = object (member (codes "type") null_type no_members)
 
 -- what a tree becomes by a rule that changes it
 abbrev pub changed : Rule → Data → Data
@@ -162,8 +202,22 @@ changed required_absent d = with_member (codes "required") (boolean false) d
 changed version_of_two d = with_text (λ s. s ++ codes ".0") d
 changed scheme_in_other_case d = with_text str_to_ascii_lowercase d
 changed schema_true d = object no_members
-changed const_alone d = const_as_enum d
+changed const_alone d = listed (codes "const") (codes "enum") d
 changed items_absent d = with_member (codes "items") (object no_members) d
+changed version_of_3_0 d = with_text (λ s. codes "3.1.0") d
+changed beside_reference d = only_member (codes "$ref") d
+changed binary_format d = replaced (codes "format") (codes "contentMediaType") (codes "application/octet-stream") d
+changed byte_format d = replaced (codes "format") (codes "contentEncoding") (codes "base64") d
+changed exclusive_minimum d = moved (codes "minimum") (codes "exclusiveMinimum") d
+changed idle_exclusive_minimum d = taken_away (codes "exclusiveMinimum") d
+changed exclusive_maximum d = moved (codes "maximum") (codes "exclusiveMaximum") d
+changed idle_exclusive_maximum d = taken_away (codes "exclusiveMaximum") d
+changed schema_example d = listed (codes "example") (codes "examples") d
+changed null_in_enum d = edited (codes "enum" ∷ []) (codes "enum") (option_map (with_item null) (get (codes "enum") d)) d
+changed nullable_type d = edited (codes "type" ∷ codes "nullable" ∷ []) (codes "type") (option_map (λ t. list_of_two t null_type) (get (codes "type") d)) d
+changed nullable_reference d =
+    edited (codes "allOf" ∷ codes "oneOf" ∷ codes "anyOf" ∷ codes "nullable" ∷ []) (codes "anyOf") (option_map (with_item null_schema) (combination d)) d
+changed idle_nullable d = taken_away (codes "nullable") d
 
 -- what a tree becomes by a rule
 abbrev pub by_rule : Rule → Data → Data
@@ -176,7 +230,7 @@ by_rules (r ∷ rs) d = by_rules rs (by_rule r d)
 
 -- ---- where the rules apply
 
--- the rules of a tree that is looked at as of a kind
+-- the rules by which a tree that is looked at as of a kind is adapted to the model
 abbrev pub rules_of : Kind → List Rule
 rules_of (named open_api_object) = paths_absent ∷ []
 rules_of (named operation_object) = responses_absent ∷ []
@@ -188,3 +242,32 @@ rules_of array_items = schema_true ∷ const_alone ∷ items_absent ∷ []
 -- the model reads `true` there
 rules_of additional_properties = const_alone ∷ items_absent ∷ []
 rules_of k = []
+
+-- the rules of each schema of 3.0. Those that look at a text at `type` stand before the one that makes it a list.
+abbrev pub upgrades_of_schemas : List Rule
+upgrades_of_schemas =
+    binary_format
+    ∷ byte_format
+    ∷ exclusive_minimum
+    ∷ idle_exclusive_minimum
+    ∷ exclusive_maximum
+    ∷ idle_exclusive_maximum
+    ∷ schema_example
+    ∷ null_in_enum
+    ∷ nullable_type
+    ∷ nullable_reference
+    ∷ idle_nullable ∷ []
+
+-- the rules by which it is upgraded
+abbrev pub upgrades_of : Kind → List Rule
+upgrades_of version = version_of_3_0 ∷ []
+upgrades_of (named reference_object) = beside_reference ∷ []
+upgrades_of schema = upgrades_of_schemas
+upgrades_of array_items = upgrades_of_schemas
+upgrades_of additional_properties = upgrades_of_schemas
+upgrades_of k = []
+
+-- the rules of a set
+abbrev pub rules_in : RuleSet → Kind → List Rule
+rules_in of_model k = rules_of k
+rules_in of_upgrade k = upgrades_of k

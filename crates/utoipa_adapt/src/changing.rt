@@ -1,12 +1,16 @@
 //! What a tree becomes by each rule. Its parts are moved into the new one.
 ghost use Rattle.std.specs.Prelude.{◌≡◌, ◌++◌, codes, IfOk};
 ghost use Rattle.std.specs.Str.{str_to_ascii_lowercase};
-ghost use Rattle.serde_json.specs.Data.{put, array, item, no_items};
-ghost use Rattle.serde_json.specs.Find.{get_member};
-ghost use Rattle.serde_json.specs.View.{view, members_view};
+ghost use Rattle.serde_json.specs.Data.{object, no_members};
+ghost use Rattle.serde_json.specs.View.{view};
 ghost use Rattle.utoipa_adapt.specs.Rules as specs;
+ghost use Rattle.utoipa_adapt.specs.Trees.{with_member, with_text};
 ghost use Rattle.utoipa_adapt.specs.Views.{rule_of, all_rules};
 
+use crate::editing::{
+    listed, moved, null_in_enum, nullable_reference, nullable_type, only_member, replaced,
+    taken_away, with_member,
+};
 use crate::rules::Rule;
 use serde_json::{Map, Value};
 use std::alloc::{AllocError, Global};
@@ -33,55 +37,48 @@ fn by_rule(alloc: Global, rule: Rule, tree: Value) -> Result<Value, AllocError>
     }
 }
 
+/// The media type of any sequence of octets.
+const OCTETS: &str = "application/octet-stream";
+
 /// What a tree becomes by a rule that applies to it.
 fn changed(alloc: Global, rule: Rule, tree: Value) -> Result<Value, AllocError>
     ensures { IfOk result (λ v. view v ≡ specs.changed (rule_of rule) (view tree)) }
 {
     match rule {
-        Rule::PathsAbsent => with_member(alloc, "paths", Value::Object(Map::new(alloc)), tree),
-        Rule::ResponsesAbsent => with_member(
-            alloc,
-            "responses",
-            Value::Object(Map::new(alloc)),
-            tree,
-        ),
+        Rule::PathsAbsent => with_empty(alloc, "paths", tree),
+        Rule::ResponsesAbsent => with_empty(alloc, "responses", tree),
         Rule::RequiredAbsent => with_member(alloc, "required", Value::Bool(false), tree),
         Rule::VersionOfTwo => with_third_number(tree),
         Rule::SchemeInOtherCase => in_lower_case(alloc, tree),
         Rule::SchemaTrue => Ok(Value::Object(Map::new(alloc))),
-        Rule::ConstAlone => const_as_enum(alloc, tree),
-        Rule::ItemsAbsent => with_member(alloc, "items", Value::Object(Map::new(alloc)), tree),
+        Rule::ConstAlone => listed(alloc, "const", "enum", tree),
+        Rule::ItemsAbsent => with_empty(alloc, "items", tree),
+        Rule::VersionOf30 => as_3_1(alloc, tree),
+        Rule::BesideReference => only_member(alloc, "$ref", tree),
+        Rule::BinaryFormat => replaced(alloc, "format", "contentMediaType", OCTETS, tree),
+        Rule::ByteFormat => replaced(alloc, "format", "contentEncoding", "base64", tree),
+        Rule::ExclusiveMinimum => moved(alloc, "minimum", "exclusiveMinimum", tree),
+        Rule::IdleExclusiveMinimum => Ok(taken_away("exclusiveMinimum", tree)),
+        Rule::ExclusiveMaximum => moved(alloc, "maximum", "exclusiveMaximum", tree),
+        Rule::IdleExclusiveMaximum => Ok(taken_away("exclusiveMaximum", tree)),
+        Rule::SchemaExample => listed(alloc, "example", "examples", tree),
+        Rule::NullInEnum => null_in_enum(alloc, tree),
+        Rule::NullableType => nullable_type(alloc, tree),
+        Rule::NullableReference => nullable_reference(alloc, tree),
+        Rule::IdleNullable => Ok(taken_away("nullable", tree)),
     }
 }
 
-/// An object with the member; any other tree stays.
-fn with_member(alloc: Global, name: &str, value: Value, tree: Value) -> Result<Value, AllocError>
-    ensures { IfOk result (λ v. view v ≡ specs.with_member name.now (view value) (view tree)) }
+/// An object with an empty object as the member; any other tree stays.
+fn with_empty(alloc: Global, name: &str, tree: Value) -> Result<Value, AllocError>
+    ensures { IfOk result (λ v. view v ≡ with_member name.now (object no_members) (view tree)) }
 {
-    match tree {
-        Value::Object(members) => Ok(Value::Object(with_entry(alloc, name, value, members)?)),
-        other => Ok(other),
-    }
-}
-
-/// The members with one more.
-fn with_entry(
-    alloc: Global,
-    name: &str,
-    value: Value,
-    members: Map<String, Value>,
-) -> Result<Map<String, Value>, AllocError>
-    ensures { IfOk result
-        (λ m. members_view m.entries ≡ put name.now (view value) (members_view members.entries)) }
-{
-    let mut all = members;
-    drop(all.insert(String::from_str(alloc, name)?, value)?);
-    Ok(all)
+    with_member(alloc, name, Value::Object(Map::new(alloc)), tree)
 }
 
 /// A version with the third number 0; any other tree stays.
 fn with_third_number(tree: Value) -> Result<Value, AllocError>
-    ensures { IfOk result (λ v. view v ≡ specs.with_text (λ s. s ++ codes ".0") (view tree)) }
+    ensures { IfOk result (λ v. view v ≡ with_text (λ s. s ++ codes ".0") (view tree)) }
 {
     match tree {
         Value::String(version) => {
@@ -95,7 +92,7 @@ fn with_third_number(tree: Value) -> Result<Value, AllocError>
 
 /// A text in lower case; any other tree stays.
 fn in_lower_case(alloc: Global, tree: Value) -> Result<Value, AllocError>
-    ensures { IfOk result (λ v. view v ≡ specs.with_text str_to_ascii_lowercase (view tree)) }
+    ensures { IfOk result (λ v. view v ≡ with_text str_to_ascii_lowercase (view tree)) }
 {
     match tree {
         Value::String(text) => Ok(Value::String(text.to_ascii_lowercase(alloc)?)),
@@ -103,31 +100,12 @@ fn in_lower_case(alloc: Global, tree: Value) -> Result<Value, AllocError>
     }
 }
 
-/// A schema with an `enum` in place of its `const`; any other tree stays.
-fn const_as_enum(alloc: Global, tree: Value) -> Result<Value, AllocError>
-    ensures { IfOk result (λ v. view v ≡ specs.const_as_enum (view tree)) }
+/// The version 3.1 in place of one; any other tree stays.
+fn as_3_1(alloc: Global, tree: Value) -> Result<Value, AllocError>
+    ensures { IfOk result (λ v. view v ≡ with_text (λ s. codes "3.1.0") (view tree)) }
 {
     match tree {
-        Value::Object(members) => Ok(Value::Object(enum_of_const(alloc, members)?)),
+        Value::String(_) => Ok(Value::String(String::from_str(alloc, "3.1.0")?)),
         other => Ok(other),
-    }
-}
-
-/// The members of a schema with an `enum` in place of their `const`.
-fn enum_of_const(
-    alloc: Global,
-    members: Map<String, Value>,
-) -> Result<Map<String, Value>, AllocError>
-    ensures { IfOk result (λ m. members_view m.entries
-        ≡ specs.enum_of (get_member (codes "const") (members_view members.entries)) (members_view members.entries)) }
-{
-    let mut rest = members;
-    match rest.remove("const") {
-        None => Ok(rest),
-        Some(value) => {
-            let mut only = Vec::new(alloc);
-            only.push(value)?;
-            with_entry(alloc, "enum", Value::Array(only), rest)
-        }
     }
 }

@@ -2,28 +2,58 @@
 ghost use Rattle.std.specs.Prelude.{◌≡◌};
 ghost use Rattle.serde_json.specs.View.{view};
 ghost use Rattle.utoipa_adapt.specs.Adapted as specs;
+ghost use Rattle.utoipa_adapt.specs.Views.{set_of};
 ghost use Rattle.utoipa_tables.specs.Tables.{kind_of, members_of};
 
-use crate::rules::says;
+use crate::looking::{has, says};
+use crate::rules::RuleSet;
 use serde_json::Value;
 use utoipa_base::is_extension_name;
 use utoipa_tables::{Kind, ObjectType, Row, SchemaAlternative, rows, schema_rows};
 
+/// The kind of a reference that stands where a tree of a kind may.
+fn reference_kind(set: RuleSet, kind: Kind) -> Kind
+    ensures { kind_of result ≡ specs.reference_kind (set_of set) (kind_of kind) }
+{
+    match set {
+        RuleSet::Model => Kind::Any,
+        RuleSet::Upgrade => match kind {
+            Kind::Named(ObjectType::PathItemObject | ObjectType::MediaTypeObject) => kind,
+            _ => Kind::Named(ObjectType::ReferenceObject),
+        },
+    }
+}
+
+/// The kind of a schema where the model reads no reference.
+fn schema_kind(set: RuleSet, is_reference: bool) -> Kind
+    ensures { kind_of result ≡ specs.schema_kind (set_of set) is_reference }
+{
+    match set {
+        RuleSet::Upgrade if is_reference => Kind::Named(ObjectType::ReferenceObject),
+        _ => Kind::Schema,
+    }
+}
+
 /// The kind of a tree at a place of a kind, by whether it has a member `$ref`.
-fn taken_kind(is_reference: bool, kind: Kind) -> Kind
-    ensures { kind_of result ≡ specs.taken_kind is_reference (kind_of kind) }
+fn taken_kind(set: RuleSet, is_reference: bool, kind: Kind) -> Kind
+    ensures { kind_of result ≡ specs.taken_kind (set_of set) is_reference (kind_of kind) }
 {
     match kind {
         Kind::RefOr(own) => {
             if is_reference {
-                Kind::Any
+                reference_kind(set, *own)
             } else {
-                taken_kind(is_reference, *own)
+                taken_kind(set, is_reference, *own)
             }
         }
         Kind::ArrayItems | Kind::AdditionalProperties => {
-            if is_reference { Kind::Any } else { kind }
+            if is_reference {
+                reference_kind(set, kind)
+            } else {
+                kind
+            }
         }
+        Kind::Schema => schema_kind(set, is_reference),
         _ => kind,
     }
 }
@@ -44,11 +74,11 @@ fn scheme_kind(kind: Kind, tree: &Value) -> Kind
     }
 }
 
-/// The kind of a tree at a place of a kind: of a reference any, so that it is left as it is.
-pub(crate) fn own_kind(kind: Kind, tree: &Value) -> Kind
-    ensures { kind_of result ≡ specs.own_kind (kind_of kind) (view tree.now) }
+/// The kind of a tree at a place of a kind. What is left as it is has the kind `Any`.
+pub(crate) fn own_kind(set: RuleSet, kind: Kind, tree: &Value) -> Kind
+    ensures { kind_of result ≡ specs.own_kind (set_of set) (kind_of kind) (view tree.now) }
 {
-    scheme_kind(taken_kind(tree.get("$ref").is_some(), kind), tree)
+    scheme_kind(taken_kind(set, has(tree, "$ref"), kind), tree)
 }
 
 /// The kind of the items of an array of a kind.

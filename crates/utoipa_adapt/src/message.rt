@@ -1,4 +1,4 @@
-//! What was adapted, in words.
+//! What was adapted or upgraded, in words.
 ghost use Rattle.std.specs.Prelude.{◌≡◌, Some};
 ghost use Rattle.utoipa_adapt.specs.Said.{rule_text, told_text};
 ghost use Rattle.utoipa_adapt.specs.Views.{rule_of, told_of};
@@ -21,6 +21,21 @@ impl Rule {
             Rule::SchemaTrue => "the schema `true` is read as `{}`",
             Rule::ConstAlone => "the member `const` is read as an `enum` of its value",
             Rule::ItemsAbsent => "the member `items` is absent, and is read as `{}`",
+            Rule::VersionOf30 => "the version becomes `3.1.0`",
+            Rule::BesideReference => "the members beside `$ref` have no effect, and go",
+            Rule::BinaryFormat => {
+                "the format `binary` becomes the `contentMediaType` `application/octet-stream`"
+            }
+            Rule::ByteFormat => "the format `byte` becomes the `contentEncoding` `base64`",
+            Rule::ExclusiveMinimum => "the bound of `minimum` becomes that of `exclusiveMinimum`",
+            Rule::IdleExclusiveMinimum => "the member `exclusiveMinimum` has no effect, and goes",
+            Rule::ExclusiveMaximum => "the bound of `maximum` becomes that of `exclusiveMaximum`",
+            Rule::IdleExclusiveMaximum => "the member `exclusiveMaximum` has no effect, and goes",
+            Rule::SchemaExample => "the member `example` becomes a list, `examples`",
+            Rule::NullInEnum => "the `enum` gets null, which `nullable` allows",
+            Rule::NullableType => "the member `nullable` becomes a second type, `null`",
+            Rule::NullableReference => "the member `nullable` becomes an alternative, null",
+            Rule::IdleNullable => "the member `nullable` has no effect, and goes",
         }
     }
 }
@@ -34,7 +49,7 @@ impl fmt::Display for Rule {
     }
 }
 
-/// The JSON Pointer of the place, and what was adapted there.
+/// The JSON Pointer of the place, and what was changed there.
 impl fmt::Display for AdaptedPlace<'_> {
     ghost output = { λ a. Some (told_text (told_of a)) };
 

@@ -1,13 +1,13 @@
-//! What is adapted in a tree, and where.
+//! What is adapted or upgraded in a tree, and where.
 ghost use Rattle.std.specs.Prelude.{◌≡◌, ◌++◌, IfOk, OnOk};
 ghost use Rattle.serde_json.specs.View.{view, items_view, members_view};
 ghost use Rattle.utoipa_adapt.specs.Adapted as specs;
-ghost use Rattle.utoipa_adapt.specs.Views.{all_rules, all_told};
+ghost use Rattle.utoipa_adapt.specs.Views.{set_of, all_rules, all_told};
 ghost use Rattle.utoipa_check.specs.Views.{step_of};
 ghost use Rattle.utoipa_tables.specs.Tables.{kind_of};
 
 use crate::kinds::{item_kind, member_kind, own_kind};
-use crate::rules::{Rule, rules_of};
+use crate::rules::{Rule, RuleSet, rules_in};
 use serde_json::{Map, Value};
 use std::alloc::{AllocError, Global};
 use utoipa_check::{Pointer, Step};
@@ -22,7 +22,7 @@ pub struct AdaptedPlace<'a> {
     pub rule: Rule,
 }
 
-/// Adds what was adapted in a tree, by the places of the tree that it stands in. Fails where memory runs out.
+/// Adds what was changed in a tree, by the places of the tree that it stands in. Fails where memory runs out.
 fn put_under<'a>(
     step: Step<'a>,
     inner: Vec<AdaptedPlace<'a>>,
@@ -72,66 +72,82 @@ pub fn adaptations<'a>(
     ensures { IfOk result
         (λ v. all_told v.items ≡ specs.adaptations (kind_of kind) (view tree.now)) }
 {
-    told_of_tree(alloc, kind, tree)
+    told_of_tree(alloc, RuleSet::Model, kind, tree)
 }
 
-/// What is adapted in a tree of a kind: of one that is left as it is, nothing.
-#[cycle(told)]
-fn told_of_tree<'a>(
+/// All that is upgraded in a tree of OpenAPI 3.0, with its places. What changes a tree itself comes after what changes the trees in it.
+///
+/// Where the list is empty, the upgraded tree is the tree itself. Fails where memory runs out.
+pub fn upgrades<'a>(
     alloc: Global,
     kind: Kind,
     tree: &'a Value,
 ) -> Result<Vec<AdaptedPlace<'a>>, AllocError>
+    ensures { IfOk result (λ v. all_told v.items ≡ specs.upgrades (kind_of kind) (view tree.now)) }
+{
+    told_of_tree(alloc, RuleSet::Upgrade, kind, tree)
+}
+
+/// What a set of rules changes in a tree of a kind: in one that is left as it is, nothing.
+#[cycle(told)]
+fn told_of_tree<'a>(
+    alloc: Global,
+    set: RuleSet,
+    kind: Kind,
+    tree: &'a Value,
+) -> Result<Vec<AdaptedPlace<'a>>, AllocError>
     ensures { IfOk result
-        (λ v. all_told v.items ≡ specs.adaptations (kind_of kind) (view tree.now)) }
+        (λ v. all_told v.items ≡ specs.changes (set_of set) (kind_of kind) (view tree.now)) }
 {
     if matches!(kind, Kind::Any) {
         return Ok(Vec::new(alloc));
     }
-    let own = own_kind(kind, tree);
+    let own = own_kind(set, kind, tree);
     let mut told = match tree {
-        Value::Array(items) => told_of_items(alloc, item_kind(own), items)?,
-        Value::Object(members) => told_of_members(alloc, own, members)?,
+        Value::Array(items) => told_of_items(alloc, set, item_kind(own), items)?,
+        Value::Object(members) => told_of_members(alloc, set, own, members)?,
         Value::Null | Value::Bool(_) | Value::Number(_) | Value::String(_) => Vec::new(alloc),
     };
-    put_here(alloc, rules_of(own), tree, &mut told)?;
+    put_here(alloc, rules_in(set, own), tree, &mut told)?;
     Ok(told)
 }
 
-/// What is adapted in the items of an array, each of the kind.
+/// What is changed in the items of an array, each of the kind.
 #[cycle(told)]
 fn told_of_items<'a>(
     alloc: Global,
+    set: RuleSet,
     kind: Kind,
     items: &'a Vec<Value>,
 ) -> Result<Vec<AdaptedPlace<'a>>, AllocError>
-    ensures { IfOk result
-        (λ v. all_told v.items ≡ specs.items_told 0 (items_view items.now.items) (kind_of kind)) }
+    ensures { IfOk result (λ v. all_told v.items
+        ≡ specs.items_told (set_of set) 0 (items_view items.now.items) (kind_of kind)) }
 {
     let mut told = Vec::new(alloc);
     let mut index: usize = 0;
     for item in items {
-        let inner = told_of_tree(alloc, kind, item)?;
+        let inner = told_of_tree(alloc, set, kind, item)?;
         put_under(Step::Index(index), inner, &mut told)?;
         index += 1;
     }
     Ok(told)
 }
 
-/// What is adapted in the members of an object of the kind.
+/// What is changed in the members of an object of the kind.
 #[cycle(told)]
 fn told_of_members<'a>(
     alloc: Global,
+    set: RuleSet,
     kind: Kind,
     members: &'a Map<String, Value>,
 ) -> Result<Vec<AdaptedPlace<'a>>, AllocError>
     ensures { IfOk result (λ v. all_told v.items
-        ≡ specs.members_told (members_view members.now.entries) (kind_of kind)) }
+        ≡ specs.members_told (set_of set) (members_view members.now.entries) (kind_of kind)) }
 {
     let mut told = Vec::new(alloc);
     for (name, member) in members.iter() {
         let name = name.as_str();
-        let inner = told_of_tree(alloc, member_kind(kind, name), member)?;
+        let inner = told_of_tree(alloc, set, member_kind(kind, name), member)?;
         put_under(Step::Name(name), inner, &mut told)?;
     }
     Ok(told)

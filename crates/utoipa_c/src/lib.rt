@@ -19,7 +19,7 @@ ghost use Rattle.utoipa_findings.specs.Told.{IsChecked};
 
 use std::alloc::Global;
 use utoipa_command::answer::answer;
-use utoipa_command::files::{Source, check};
+use utoipa_command::files::{Form, Source, check};
 use utoipa_command::{Command, Refusal, dropped};
 use why::{input_kind, list_kind, told};
 
@@ -194,13 +194,17 @@ pub extern "C" fn utoipa_nest(
 
 // Tells what is found in a text.
 fn tell_found(alloc: Global, name: &str, text: &[u8], room: &mut [u8], needed: &mut usize) -> u8
-    ensures done { result ≡ 0 → IsWritten (IsChecked document_kind name.now text.now) room.old room.new needed.new }
-    ensures room { result ≡ 1 → IsTooLong (IsChecked document_kind name.now text.now) room.old needed.new }
+    ensures done { result ≡ 0 → IsWritten (IsChecked document_kind (name.now, text.now, Form.AsIs)) room.old room.new needed.new }
+    ensures room { result ≡ 1 → IsTooLong (IsChecked document_kind (name.now, text.now, Form.AsIs)) room.old needed.new }
     ensures refused { result ≢ 0 → result ≢ 1 → result ≡ 2 }
     ensures untouched { result ≢ 0 → room.new ≡ room.old }
     ensures unsaid { result ≢ 0 → result ≢ 1 → needed.new ≡ needed.old }
 {
-    let source = Source { name, bytes: text };
+    let source = Source {
+        name,
+        bytes: text,
+        form: Form::AsIs,
+    };
     match check(alloc, source) {
         Ok(lines) => put(lines.as_bytes(), room, needed),
         Err(_) => code(Refusal::Memory),
@@ -209,7 +213,7 @@ fn tell_found(alloc: Global, name: &str, text: &[u8], room: &mut [u8], needed: &
 
 /// Tells what is found in a text that is to be an OpenAPI Object (section 4.8.1): a line for each place that does not fit, is read otherwise than
 /// it was meant, is dropped where it is read and written again, or refers to nothing; or the line that tells that the text is no JSON. Each
-/// line begins with the name. Nothing is written where nothing is found.
+/// line begins with the name. Nothing is written where nothing is found. The text is looked at as it is, for so [`utoipa_document`] reads it.
 ///
 /// The codes are those of [`utoipa_server`] up to 2, and 14 where the name is not UTF-8: no text is refused.
 #[unsafe(no_mangle)]
@@ -220,8 +224,8 @@ pub extern "C" fn utoipa_check(
     room: &mut [u8],
     needed: &mut usize,
 ) -> u8
-    ensures done { result ≡ 0 → IsWritten (IsChecked document_kind name.now text.now) room.old room.new needed.new }
-    ensures room { result ≡ 1 → IsTooLong (IsChecked document_kind name.now text.now) room.old needed.new }
+    ensures done { result ≡ 0 → IsWritten (IsChecked document_kind (name.now, text.now, Form.AsIs)) room.old room.new needed.new }
+    ensures room { result ≡ 1 → IsTooLong (IsChecked document_kind (name.now, text.now, Form.AsIs)) room.old needed.new }
     ensures name { (result ≡ 14) ↔ (¬ IsUtf8 name.now) }
     ensures refused { result ≢ 0 → result ≢ 1 → result ≢ 14 → result ≡ 2 }
     ensures untouched { result ≢ 0 → room.new ≡ room.old }

@@ -1,7 +1,7 @@
 //! The calls that tell in lines what is found in a file, and what it loses when its document is written again.
 
 use std::alloc::{AllocError, Global};
-use utoipa_findings::{Refusal, Source, check, lost_of};
+use utoipa_findings::{Form, Refusal, Source, check, lost_of};
 use utoipa_leaf::info::{Contact, Info};
 use utoipa_leaf::tag::Tag;
 use utoipa_tables::{Kind, ObjectType};
@@ -11,6 +11,7 @@ fn file(text: &str) -> Source<'_> {
     Source {
         name: "f",
         bytes: text.as_bytes(),
+        form: Form::AsIs,
     }
 }
 

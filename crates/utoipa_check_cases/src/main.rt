@@ -10,6 +10,8 @@
 //! | `references TYPE` | a JSON text | the places where a document of the type refers, each with its text and what has become of it |
 //! | `adaptations TYPE` | a JSON text | what is adapted in its tree, each with its place; `none` where nothing is |
 //! | `adapted TYPE` | a JSON text | the adapted tree |
+//! | `upgrades TYPE` | a JSON text of OpenAPI 3.0 | what is upgraded in its tree, each with its place; `none` where nothing is |
+//! | `upgraded TYPE` | a JSON text of OpenAPI 3.0 | the upgraded tree |
 //! | `located TYPE` | a JSON text | `read` where the text is a document of the type, else the fault with its place |
 //! | `conflicts` | a JSON list of the trees of documents | what is dropped where they are merged |
 //! | `nested_conflicts` | a JSON list: the tree of a document, that of one that is nested into it, and a list of the answers to the nested paths | what is dropped |
@@ -38,7 +40,7 @@ use crate::told::told;
 use serde_json::Value;
 use std::alloc::{AllocError, Global};
 use std::io;
-use utoipa_adapt::{adapt, adaptations};
+use utoipa_adapt::{adapt, adaptations, upgrade, upgrades};
 use utoipa_case_kit::Call;
 use utoipa_check::references::references;
 use utoipa_check::{Pointer, Report, doubts, misfits};
@@ -77,12 +79,11 @@ fn answer_of_kind(alloc: Global, call: &Call<'_>) -> Result<String, AllocError> 
         return String::from_str(alloc, "no such type");
     };
     match Value::from_str(alloc, call.given) {
-        Ok(tree) => {
-            if call.name == "adapted" {
-                return adapt(alloc, kind, tree)?.to_string(alloc);
-            }
-            answer_of_tree(alloc, call.name, kind, &tree)
-        }
+        Ok(tree) => match call.name {
+            "adapted" => adapt(alloc, kind, tree)?.to_string(alloc),
+            "upgraded" => upgrade(alloc, kind, tree)?.to_string(alloc),
+            _ => answer_of_tree(alloc, call.name, kind, &tree),
+        },
         Err(_) => String::from_str(alloc, "no JSON"),
     }
 }
@@ -95,6 +96,7 @@ fn answer_of_tree(
 ) -> Result<String, AllocError> {
     match call {
         "adaptations" => told(alloc, &adaptations(alloc, kind, tree)?),
+        "upgrades" => told(alloc, &upgrades(alloc, kind, tree)?),
         "doubts" => told(alloc, &doubts(alloc, kind, tree)?),
         "references" => told(alloc, &references(alloc, kind, tree)?),
         "misfits" => told(alloc, &misfits(alloc, kind, tree)?.misfits),

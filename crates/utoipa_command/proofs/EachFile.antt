@@ -2,7 +2,7 @@
 use Rattle.std.proofs.Common.{◌≡◌, ◌≢◌, ◌∷◌, ◌++◌, ◌<◌, ◌⊎◌, ◌+◌, ℕ, zero, suc, List, [], Bool, true, length, map, take, get_or, inl, inr, Result, Ok, Err, IfErr, String, Global, string_bytes, refl, sym, ap, ◌∙◌, subst, append_assoc, arith}
 use Rattle.std.proofs.lemmas.List.{append-nil, map-append, take_more, flat_map_more}
 use Rattle.utoipa_base.specs.Docs.{Doc}
-use Rattle.utoipa_findings.specs.Sources.{IsSourceOf}
+use Rattle.utoipa_findings.specs.Sources.{File, IsFileOf, file_of}
 use Rattle.utoipa_findings.specs.Told.{Tells, IsRefused}
 use Rattle.utoipa_findings.specs.Views.{names_of}
 use Rattle.utoipa_findings.specs.declared.refusal.Refusal.{Refusal}
@@ -10,14 +10,14 @@ use Rattle.utoipa_findings.specs.declared.refusal.Refusal.TheVariants.{Memory, T
 use Rattle.utoipa_findings.specs.declared.source.Source.{Source}
 use Rattle.utoipa_findings.proofs.ComesBack.{first_none, second_none}
 use Rattle.utoipa_findings.proofs.NothingTold.{refused_some}
-use Rattle.utoipa_command.specs.Files.{File, document_kind, file_of, file_losses, losses_of, dropped_lines, lost_by_merging, dropped_by_nesting, lost_by_nesting, AreSourcesOf, IsToldOf, AreTold, AreRefused, IsLossy, AreLossy, AreLossyNested}
+use Rattle.utoipa_command.specs.Files.{document_kind, file_losses, losses_of, dropped_lines, lost_by_merging, dropped_by_nesting, lost_by_nesting, AreSourcesOf, IsToldOf, AreTold, AreRefused, IsLossy, AreLossy, AreLossyNested}
 
 pub names_are : (ss : List Source) → map (λ f. f.0) (map file_of ss) ≡ names_of ss
 names_are [] = refl
 names_are (s ∷ ss) = ap (λ ns. s.name.now ∷ ns) (names_are ss)
 
 -- one document more
-pub sources_more : (ds : List Doc) (fs : List File) (d : Doc) (f : File) → AreSourcesOf ds fs → IsSourceOf document_kind d f.1 → AreSourcesOf (ds ++ d ∷ []) (fs ++ f ∷ [])
+pub sources_more : (ds : List Doc) (fs : List File) (d : Doc) (f : File) → AreSourcesOf ds fs → IsFileOf document_kind d f → AreSourcesOf (ds ++ d ∷ []) (fs ++ f ∷ [])
 sources_more [] [] d f h s = (s, tt)
 sources_more [] (g ∷ fs) d f h s = absurd h
 sources_more (e ∷ ds) [] d f h s = absurd h
@@ -25,7 +25,7 @@ sources_more (e ∷ ds) (g ∷ fs) d f h s = (h.0, sources_more ds fs d f h.1 s)
 
 -- the document of the next file, put behind those of the files before it
 pub sources_put : {D : Type 0} (f : D → Doc) (xs ys : List D) (x : D) (ss : List Source) (i : ℕ) (d : Source) → AreSourcesOf (map f xs) (map file_of (take i ss))
-    → i < length ss → ys ≡ xs ++ x ∷ [] → IsSourceOf document_kind (f x) (get_or ss i d).bytes.now → AreSourcesOf (map f ys) (map file_of (take (i + 1) ss))
+    → i < length ss → ys ≡ xs ++ x ∷ [] → IsFileOf document_kind (f x) (file_of (get_or ss i d)) → AreSourcesOf (map f ys) (map file_of (take (i + 1) ss))
 sources_put f xs ys x ss i d before less put source =
     let s = get_or ss i d in
     let documents : map f ys ≡ map f xs ++ f x ∷ [] = ap (map f) put ∙ map-append f xs (x ∷ []) in
@@ -95,12 +95,12 @@ nested_lost_is base own nested c d fresh before dropped lines none files nesting
 pub file_lost_is : (f : File) (fresh before lines : List ℕ) → fresh ≡ [] → before ≡ fresh ++ file_losses f → lines ≡ before → lines ≡ file_losses f
 file_lost_is f fresh before lines none is same = same ∙ is ∙ ap (λ x. x ++ file_losses f) none
 
-pub lossy_file_told : (f : File) (d : Doc) (strict : Bool) (lost : List ℕ) (w : Refusal) → IsSourceOf document_kind d f.1 → lost ≡ file_losses f
-    → Tells (λ told. (strict ≡ true) × (told ≢ []) × (told ≡ lost)) w → Tells (λ told. IsRefused document_kind f.0 f.1 told ⊎ ((strict ≡ true) × IsLossy f told)) w
+pub lossy_file_told : (f : File) (d : Doc) (strict : Bool) (lost : List ℕ) (w : Refusal) → IsFileOf document_kind d f → lost ≡ file_losses f
+    → Tells (λ told. (strict ≡ true) × (told ≢ []) × (told ≡ lost)) w → Tells (λ told. IsRefused document_kind f told ⊎ ((strict ≡ true) × IsLossy f told)) w
 lossy_file_told f d strict lost Memory reads is h = tt
 lossy_file_told f d strict lost (Told lines) reads is h = inr (h.0, record { document = d; reads = reads; lines = h.2 ∙ is; some = h.1 })
 
-pub lossy_nested_told : (base : List ℕ) (own nested : File) (c d : Doc) (strict : Bool) (lost : List ℕ) (w : Refusal) → IsSourceOf document_kind c own.1 → IsSourceOf document_kind d nested.1
+pub lossy_nested_told : (base : List ℕ) (own nested : File) (c d : Doc) (strict : Bool) (lost : List ℕ) (w : Refusal) → IsFileOf document_kind c own → IsFileOf document_kind d nested
     → lost ≡ lost_by_nesting base own nested c d → Tells (λ told. (strict ≡ true) × (told ≢ []) × (told ≡ lost)) w
     → Tells (λ told. AreRefused (own ∷ nested ∷ []) told ⊎ ((strict ≡ true) × AreLossyNested base own nested told)) w
 lossy_nested_told base own nested c d strict lost Memory reads reads_nested is h = tt
@@ -108,20 +108,20 @@ lossy_nested_told base own nested c d strict lost (Told lines) reads reads_neste
     inr (h.0, record { own_document = c; reads = reads; nested_document = d; reads_nested = reads_nested; lines = h.2 ∙ is; some = h.1 })
 
 -- of two files the second is refused
-pub second_refused_told : (own nested : File) (c : Doc) (w : Refusal) → IsSourceOf document_kind c own.1 → Tells (IsRefused document_kind nested.0 nested.1) w → Tells (AreRefused (own ∷ nested ∷ [])) w
+pub second_refused_told : (own nested : File) (c : Doc) (w : Refusal) → IsFileOf document_kind c own → Tells (IsRefused document_kind nested) w → Tells (AreRefused (own ∷ nested ∷ [])) w
 second_refused_told own nested c Memory reads h = tt
 second_refused_told own nested c (Told lines) reads h =
-    (([], string_bytes lines, refl, inr ((c, reads), refl), (string_bytes lines, [], sym (append-nil (string_bytes lines)), inl h, refl)), refused_some document_kind nested.0 nested.1 (string_bytes lines) h)
+    (([], string_bytes lines, refl, inr ((c, reads), refl), (string_bytes lines, [], sym (append-nil (string_bytes lines)), inl h, refl)), refused_some document_kind nested (string_bytes lines) h)
 
 -- of two files the first is refused, and the second is not
-pub first_refused : (own nested : File) (d : Doc) (told : List ℕ) → IsRefused document_kind own.0 own.1 told → IsSourceOf document_kind d nested.1 → AreRefused (own ∷ nested ∷ []) told
+pub first_refused : (own nested : File) (d : Doc) (told : List ℕ) → IsRefused document_kind own told → IsFileOf document_kind d nested → AreRefused (own ∷ nested ∷ []) told
 first_refused own nested d told h reads =
-    ((told, [], sym (append-nil told), inl h, ([], [], refl, inr ((d, reads), refl), refl)), refused_some document_kind own.0 own.1 told h)
+    ((told, [], sym (append-nil told), inl h, ([], [], refl, inr ((d, reads), refl), refl)), refused_some document_kind own told h)
 
 -- both are refused
-pub both_refused : (own nested : File) (told more all : List ℕ) → IsRefused document_kind own.0 own.1 told → IsRefused document_kind nested.0 nested.1 more → all ≡ told ++ more → AreRefused (own ∷ nested ∷ []) all
+pub both_refused : (own nested : File) (told more all : List ℕ) → IsRefused document_kind own told → IsRefused document_kind nested more → all ≡ told ++ more → AreRefused (own ∷ nested ∷ []) all
 both_refused own nested told more all h g is =
-    ((told, more, is, inl h, (more, [], sym (append-nil more), inl g, refl)), λ none. refused_some document_kind own.0 own.1 told h (first_none told more (sym is ∙ none)))
+    ((told, more, is, inl h, (more, [], sym (append-nil more), inl g, refl)), λ none. refused_some document_kind own told h (first_none told more (sym is ∙ none)))
 
 -- what is refused for one reason of two
 pub refused_or : (P Q : List ℕ → Type 0) (w : Refusal) → Tells P w → Tells (λ told. P told ⊎ Q told) w

@@ -7,28 +7,28 @@ use Rattle.utoipa_base.specs.Docs.{Doc}
 use Rattle.utoipa_base.specs.WellFormed.{IsPlain}
 use Rattle.utoipa_base.specs.Writing.{write}
 use Rattle.utoipa_base.proofs.Plain.{read_plain, write_plain}
-use Rattle.utoipa_findings.specs.Sources.{IsSourceOf}
-use Rattle.utoipa_findings.proofs.SortedWritten.{text_tree_sorted}
+use Rattle.utoipa_findings.specs.Sources.{File, IsFileOf}
+use Rattle.utoipa_findings.proofs.SortedAdapted.{file_tree_sorted}
 use Rattle.utoipa_merging.specs.Merged.{IsInKeyOrder, IsMerged, IsOpenApi}
 use Rattle.utoipa_merging.specs.Nested.{IsNested}
 use Rattle.utoipa_merging.proofs.PlainMerged.{merged_plain, nested_plain}
 use Rattle.utoipa_merging.proofs.ReadInOrder.{read_in_order}
 use Rattle.utoipa_command.specs.Answers.{behind}
-use Rattle.utoipa_command.specs.Files.{File, document_kind, file_losses, lost_by_merging, lost_by_nesting, AreSourcesOf, IsFormatted, IsMerge, IsNest}
+use Rattle.utoipa_command.specs.Files.{document_kind, file_losses, lost_by_merging, lost_by_nesting, AreSourcesOf, IsFormatted, IsMerge, IsNest}
 use Rattle.utoipa_command.specs.Layouts.{laid_out}
 use Rattle.utoipa_command.specs.declared.files.layout.Layout.{Layout}
 
-pub source_in_order : (d : Doc) (bytes : List ℕ) → IsSourceOf document_kind d bytes → IsInKeyOrder d
-source_in_order d bytes s = read_in_order s.tree d (text_tree_sorted bytes s.tree s.has) s.reads.1
+pub source_in_order : (d : Doc) (f : File) → IsFileOf document_kind d f → IsInKeyOrder d
+source_in_order d f s = read_in_order s.tree d (file_tree_sorted document_kind f s.tree s.has) s.reads.1
 
-source_plain : (d : Doc) (bytes : List ℕ) → IsSourceOf document_kind d bytes → IsPlain d
-source_plain d bytes s = read_plain document_kind s.tree d s.reads.0 s.reads.1
+source_plain : (d : Doc) (f : File) → IsFileOf document_kind d f → IsPlain d
+source_plain d f s = read_plain document_kind s.tree d s.reads.0 s.reads.1
 
 sources_plain : (ds : List Doc) (fs : List File) → AreSourcesOf ds fs → AllByRecursion IsPlain ds
 sources_plain [] [] h = tt
 sources_plain [] (f ∷ fs) h = absurd h
 sources_plain (d ∷ ds) [] h = absurd h
-sources_plain (d ∷ ds) (f ∷ fs) h = (source_plain d f.1 h.0, sources_plain ds fs h.1)
+sources_plain (d ∷ ds) (f ∷ fs) h = (source_plain d f h.0, sources_plain ds fs h.1)
 
 -- what holds of a result holds of what it is
 pub ok_is : {T E : Type 0} (P : T → Type 0) (r : Result T E) (v : T) → IfOk r P → r ≡ Ok v → P v
@@ -52,9 +52,9 @@ all_of_kind f of_kind xs = All-from_recursion IsOpenApi (map f xs) (each_of_kind
 
 -- ---- answers
 
-pub formatted : (l : Layout) (f : File) (text lost : List ℕ) (d : Doc) → IsSourceOf document_kind d f.1 → (has_float (write d) ≡ false → text ≡ laid_out l (write d)) → lost ≡ file_losses f
+pub formatted : (l : Layout) (f : File) (text lost : List ℕ) (d : Doc) → IsFileOf document_kind d f → (has_float (write d) ≡ false → text ≡ laid_out l (write d)) → lost ≡ file_losses f
     → IsFormatted l f text lost
-formatted l f text lost d s printed told = record { document = d; reads = s; written = printed (write_plain d (source_plain d f.1 s)); told = told }
+formatted l f text lost d s printed told = record { document = d; reads = s; written = printed (write_plain d (source_plain d f s)); told = told }
 
 pub merged : (l : Layout) (fs : List File) (text lost : List ℕ) (ds : List Doc) (d : Doc) → AreSourcesOf ds fs → All IsOpenApi ds → IsMerged ds d → IsInKeyOrder d
     → (has_float (write d) ≡ false → text ≡ laid_out l (write d)) → lost ≡ lost_by_merging fs ds → IsMerge l fs text lost
@@ -70,11 +70,11 @@ merged l fs text lost ds d s each m order printed told = record {
 }
 
 pub nested : (l : Layout) (base : List ℕ) (own_file inner_file : File) (text lost : List ℕ) (own inner d : Doc) → IsOpenApi own → IsOpenApi inner
-    → IsSourceOf document_kind own own_file.1 → IsSourceOf document_kind inner inner_file.1
+    → IsFileOf document_kind own own_file → IsFileOf document_kind inner inner_file
     → IsNested (behind base inner) own inner d → (IsInKeyOrder own → IsInKeyOrder d)
     → (has_float (write d) ≡ false → text ≡ laid_out l (write d)) → lost ≡ lost_by_nesting base own_file inner_file own inner → IsNest l base own_file inner_file text lost
 nested l base own_file inner_file text lost own inner d p q s t n ordered printed told =
-    let order = ordered (source_in_order own own_file.1 s) in
+    let order = ordered (source_in_order own own_file s) in
     record {
       own_document = own;
       reads = s;
@@ -85,6 +85,6 @@ nested l base own_file inner_file text lost own inner d p q s t n ordered printe
       answer = d;
       nests = n;
       ordered = order;
-      written = printed (write_plain d (nested_plain (behind base inner) own inner d p q n (source_plain own own_file.1 s) (source_plain inner inner_file.1 t) order));
+      written = printed (write_plain d (nested_plain (behind base inner) own inner d p q n (source_plain own own_file s) (source_plain inner inner_file t) order));
       told = told;
     }

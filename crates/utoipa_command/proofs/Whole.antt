@@ -9,6 +9,7 @@ use Rattle.serde_json.specs.Find.{get}
 use Rattle.utoipa_base.specs.Docs.{Doc}
 use Rattle.utoipa_base.specs.EachMember.{each_member}
 use Rattle.utoipa_base.specs.Extensions.{is_extension}
+use Rattle.utoipa_base.specs.WellFormed.{ReadsAs}
 use Rattle.utoipa_base.specs.Writing.{write}
 use Rattle.utoipa_base.specs.Kinds.{open_api_object}
 use Rattle.utoipa_check.specs.Places.{members_at}
@@ -19,48 +20,48 @@ use Rattle.utoipa_conflicts.proofs.NestedPaths.{pair_written, items_written}
 use Rattle.utoipa_conflicts.proofs.Written.{IsTable}
 use Rattle.utoipa_findings.specs.Findings.{text_losses}
 use Rattle.utoipa_findings.specs.Lines.{lines_of}
-use Rattle.utoipa_findings.specs.Sources.{IsSourceOf}
+use Rattle.utoipa_findings.specs.Sources.{File, IsFileOf}
 use Rattle.utoipa_findings.specs.Standing.{IsUnlost, AreUnlost, AreMergedWhole, AreNestedWhole}
 use Rattle.utoipa_findings.specs.Told.{tree_lines}
 use Rattle.utoipa_findings.proofs.ComesBack.{first_none, second_none}
 use Rattle.utoipa_findings.proofs.InText.{unlost_text}
 use Rattle.utoipa_findings.proofs.MergedWhole.{all_stand_in, unlost_table}
 use Rattle.utoipa_findings.proofs.NestedWhole.{both_stand}
+use Rattle.utoipa_findings.proofs.SortedAdapted.{tree_behind}
 use Rattle.utoipa_findings.proofs.NothingTold.{nothing_told}
 use Rattle.utoipa_findings.proofs.OnLines.{findings_are_lines, conflicts_are_lines, nested_are_lines}
 use Rattle.utoipa_merging.specs.Nested.{IsNested}
 use Rattle.utoipa_merging.specs.Slots.{entries_in, paths_of}
 use Rattle.utoipa_command.specs.Answers.{behind}
-use Rattle.utoipa_command.specs.Files.{File, document_kind, file_losses, losses_of, dropped_lines, dropped_by_nesting, is_base, AreSourcesOf, IsFormatted, IsMerge, IsNest}
+use Rattle.utoipa_command.specs.Files.{document_kind, file_losses, losses_of, dropped_lines, dropped_by_nesting, is_base, AreSourcesOf, IsFormatted, IsMerge, IsNest}
 use Rattle.utoipa_command.specs.Whole.{StandsFormatted, StandMerged, StandNested}
 use Rattle.utoipa_command.specs.declared.files.layout.Layout.{Layout}
 use Rattle.utoipa_command.proofs.FileDocuments.{source_in_order}
 
 -- ---- files
 
-unlost : (f : File) (d : Doc) (s : IsSourceOf document_kind d f.1) → file_losses f ≡ [] → IsUnlost f.1 s.tree d
+unlost : (f : File) (d : Doc) (s : IsFileOf document_kind d f) → file_losses f ≡ [] → (t : Data) × IsUnlost f t d
 unlost f d s none =
     let lost = text_losses document_kind f.1 in
     let lines = lines_of f.0 (lost s.tree) in
-    record {
-      has = s.has;
-      reads = s.reads;
-      nothing = nothing_told (lost s.tree) lines (findings_are_lines f.0 (lost s.tree)) (sym (ap (tree_lines lost f.0) s.has) ∙ none);
-    }
+    let tree = tree_behind document_kind f s.tree s.has in
+    let nothing = nothing_told (lost s.tree) lines (findings_are_lines f.0 (lost s.tree)) (sym (ap (tree_lines lost f.0) s.has) ∙ none) in
+    (tree.0, record { has = tree.1; reads = subst (λ t. ReadsAs document_kind t d) (sym tree.2) s.reads; nothing = ap lost tree.2 ∙ nothing })
 
 pub stands_formatted : (l : Layout) (file : File) (text : List ℕ) → IsFormatted l file text [] → StandsFormatted l file text
 stands_formatted l file text h =
     let u = unlost file h.document h.reads (sym h.told) in
-    let back = unlost_text document_kind file.1 h.reads.tree h.document u.has u.reads u.nothing in
-    record { tree = h.reads.tree; answer = h.document; in_tree = back.1; stands = back.0; written = h.written }
+    let back = unlost_text document_kind file u.0 h.document u.1.has u.1.reads u.1.nothing in
+    record { tree = u.0; answer = h.document; in_tree = back.1; stands = back.0; written = h.written }
 
-all_unlost : (ds : List Doc) (fs : List File) → AreSourcesOf ds fs → losses_of fs ≡ [] → (ts : List Data) × AreUnlost (map (λ f. f.1) fs) ts ds
+all_unlost : (ds : List Doc) (fs : List File) → AreSourcesOf ds fs → losses_of fs ≡ [] → (ts : List Data) × AreUnlost fs ts ds
 all_unlost [] [] h none = ([], tt)
 all_unlost [] (f ∷ fs) h none = absurd h
 all_unlost (d ∷ ds) [] h none = absurd h
 all_unlost (d ∷ ds) (f ∷ fs) h none =
     let rest = all_unlost ds fs h.1 (second_none (file_losses f) (losses_of fs) none) in
-    (h.0.tree ∷ rest.0, (unlost f d h.0 (first_none (file_losses f) (losses_of fs) none), rest.1))
+    let u = unlost f d h.0 (first_none (file_losses f) (losses_of fs) none) in
+    (u.0 ∷ rest.0, (u.1, rest.1))
 
 pub stand_merged : (l : Layout) (files : List File) (text : List ℕ) → IsMerge l files text [] → StandMerged l files text
 stand_merged l files text h =
@@ -68,10 +69,10 @@ stand_merged l files text h =
     let cs = conflicts (map write h.documents) in
     let unlost_files = all_unlost h.documents files h.reads (first_none (losses_of files) (dropped_lines names h.documents) (sym h.told)) in
     let nothing : cs ≡ [] = nothing_told cs (dropped_lines names h.documents) (conflicts_are_lines names cs) (second_none (losses_of files) (dropped_lines names h.documents) (sym h.told)) in
-    let whole : AreMergedWhole (map (λ f. f.1) files) unlost_files.0 h.documents h.answer =
-    record { files = unlost_files.1; each = h.each; merged = h.merges; ordered = h.ordered; nothing = nothing }
+    let whole : AreMergedWhole files unlost_files.0 h.documents h.answer =
+    record { unlost = unlost_files.1; each = h.each; merged = h.merges; ordered = h.ordered; nothing = nothing }
     in
-    record { trees = unlost_files.0; answer = h.answer; stand = all_stand_in (map (λ f. f.1) files) unlost_files.0 h.documents h.answer whole; written = h.written }
+    record { trees = unlost_files.0; answer = h.answer; stand = all_stand_in files unlost_files.0 h.documents h.answer whole; written = h.written }
 
 -- ---- a file that is nested
 
@@ -109,14 +110,14 @@ stand_nested l base own nested text is n =
     let lost_none = first_none (file_losses own ++ file_losses nested) dropped (sym n.told) in
     let own_unlost = unlost own c n.reads (first_none (file_losses own) (file_losses nested) lost_none) in
     let nested_unlost = unlost nested d n.reads_nested (second_none (file_losses own) (file_losses nested) lost_none) in
-    let table = unlost_table nested.1 n.reads_nested.tree d nested_unlost n.nested_kind in
-    let whole : AreNestedWhole base own.1 nested.1 n.reads.tree n.reads_nested.tree c d n.answer = record {
-      own_file = own_unlost;
-      other_file = nested_unlost;
+    let table = unlost_table nested nested_unlost.0 d nested_unlost.1 n.nested_kind in
+    let whole : AreNestedWhole base own nested own_unlost.0 nested_unlost.0 c d n.answer = record {
+      own_unlost = own_unlost.1;
+      other_unlost = nested_unlost.1;
       own_kind = n.own_kind;
       other_kind = n.nested_kind;
-      own_ordered = source_in_order c own.1 n.reads;
-      other_ordered = source_in_order d nested.1 n.reads_nested;
+      own_ordered = source_in_order c own n.reads;
+      other_ordered = source_in_order d nested n.reads_nested;
       answered = All-from_recursion IsNoExtension answers (no_extensions_in base is (get (codes "paths") (write d)));
       nested = subst (λ a. IsNested a c d n.answer) (behind_is base d table) n.nests;
       ordered = n.ordered;
@@ -124,9 +125,9 @@ stand_nested l base own nested text is n =
     }
     in
     record {
-      own_tree = n.reads.tree;
-      nested_tree = n.reads_nested.tree;
+      own_tree = own_unlost.0;
+      nested_tree = nested_unlost.0;
       answer = n.answer;
-      stand = both_stand base own.1 nested.1 n.reads.tree n.reads_nested.tree c d n.answer whole;
+      stand = both_stand base own nested own_unlost.0 nested_unlost.0 c d n.answer whole;
       written = n.written;
     }

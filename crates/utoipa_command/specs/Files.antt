@@ -8,9 +8,8 @@ use Rattle.utoipa_base.specs.Writing.{write}
 use Rattle.utoipa_conflicts.specs.Conflicts.{conflicts}
 use Rattle.utoipa_conflicts.specs.Nested as nesting
 use Rattle.utoipa_findings.specs.Lines.{conflict_line, nested_line}
-use Rattle.utoipa_findings.specs.Sources.{IsSourceOf, IsTreeOf}
+use Rattle.utoipa_findings.specs.Sources.{File, IsFileOf, IsTreeOf}
 use Rattle.utoipa_findings.specs.Told.{IsRefused, loss_lines}
-use Rattle.utoipa_findings.specs.declared.source.Source.{Source}
 use Rattle.utoipa_merging.specs.Merged.{IsMerged, IsInKeyOrder, IsOpenApi}
 use Rattle.utoipa_merging.specs.Nested.{IsNested}
 use Rattle.utoipa_outline.specs.Lines.{operation_lines}
@@ -23,28 +22,21 @@ use Rattle.utoipa_command.specs.declared.files.layout.Layout.{Layout}
 abbrev pub document_kind : Kind
 document_kind = named open_api_object
 
--- a file, by its name and its bytes
-abbrev pub File : Type 0
-File = List ℕ × List ℕ
-
-abbrev pub file_of : Source → File
-file_of s = (s.name.now, s.bytes.now)
-
 -- the lines of what a file loses when its document is written
 abbrev pub file_losses : File → List ℕ
-file_losses f = loss_lines document_kind f.0 f.1
+file_losses f = loss_lines document_kind f
 
 -- the text is that of the document that the file is, and the lines tell what the file loses by that
 pub record IsFormatted (l : Layout) (file : File) (text lost : List ℕ) : Type 0 where
   pub document : Doc
-  pub reads : IsSourceOf document_kind document file.1
+  pub reads : IsFileOf document_kind document file
   pub written : text ≡ laid_out l (write document)
   pub told : lost ≡ file_losses file
 
 -- the file is a document and loses something when that is written, and the lines tell what
 pub record IsLossy (file : File) (told : List ℕ) : Type 0 where
   pub document : Doc
-  pub reads : IsSourceOf document_kind document file.1
+  pub reads : IsFileOf document_kind document file
   pub lines : told ≡ file_losses file
   pub some : told ≢ []
 
@@ -55,7 +47,7 @@ abbrev pub AreSourcesOf : List Doc → List File → Type 0
 AreSourcesOf [] [] = Unit {0}
 AreSourcesOf [] (f ∷ fs) = ⊥
 AreSourcesOf (d ∷ ds) [] = ⊥
-AreSourcesOf (d ∷ ds) (f ∷ fs) = IsSourceOf document_kind d f.1 × AreSourcesOf ds fs
+AreSourcesOf (d ∷ ds) (f ∷ fs) = IsFileOf document_kind d f × AreSourcesOf ds fs
 
 -- the lines of what files lose when their documents are written, file by file
 abbrev pub losses_of : List File → List ℕ
@@ -82,7 +74,7 @@ pub record IsMerge (l : Layout) (files : List File) (text lost : List ℕ) : Typ
 
 -- what is told of a file among others that are refused: why it is no document, or nothing
 abbrev pub IsToldOf : File → (told : List ℕ) → Type 0
-IsToldOf f told = IsRefused document_kind f.0 f.1 told ⊎ (((d : Doc) × IsSourceOf document_kind d f.1) × (told ≡ []))
+IsToldOf f told = IsRefused document_kind f told ⊎ (((d : Doc) × IsFileOf document_kind d f) × (told ≡ []))
 
 -- the lines tell of each of the files that is no document why it is none, one file after the other
 abbrev pub AreTold : List File → (told : List ℕ) → Type 0
@@ -119,9 +111,9 @@ lost_by_nesting base own nested c d = (file_losses own ++ file_losses nested) ++
 -- the text is that of the first document with the second nested into it, its paths behind the base, and the lines tell what is lost by that
 pub record IsNest (l : Layout) (base : List ℕ) (own nested : File) (text lost : List ℕ) : Type 0 where
   pub own_document : Doc
-  pub reads : IsSourceOf document_kind own_document own.1
+  pub reads : IsFileOf document_kind own_document own
   pub nested_document : Doc
-  pub reads_nested : IsSourceOf document_kind nested_document nested.1
+  pub reads_nested : IsFileOf document_kind nested_document nested
   pub own_kind : IsOpenApi own_document
   pub nested_kind : IsOpenApi nested_document
   pub answer : Doc
@@ -133,22 +125,22 @@ pub record IsNest (l : Layout) (base : List ℕ) (own nested : File) (text lost 
 -- both files are documents, nesting loses something, and the lines tell what
 pub record AreLossyNested (base : List ℕ) (own nested : File) (told : List ℕ) : Type 0 where
   pub own_document : Doc
-  pub reads : IsSourceOf document_kind own_document own.1
+  pub reads : IsFileOf document_kind own_document own
   pub nested_document : Doc
-  pub reads_nested : IsSourceOf document_kind nested_document nested.1
+  pub reads_nested : IsFileOf document_kind nested_document nested
   pub lines : told ≡ lost_by_nesting base own nested own_document nested_document
   pub some : told ≢ []
 
 -- ---- listing
 
--- the lines of the operations of the document that the bytes are, by its tree
-pub record AreOperations (bytes lines : List ℕ) : Type 0 where
+-- the lines of the operations of the document that the file is, by its tree
+pub record AreOperations (file : File) (lines : List ℕ) : Type 0 where
   pub tree : Data
-  pub has : IsTreeOf document_kind tree bytes
+  pub has : IsTreeOf document_kind tree file
   pub told : lines ≡ operation_lines tree
 
--- the lines of what is counted of the document that the bytes are, by its tree
-pub record AreStats (bytes lines : List ℕ) : Type 0 where
+-- the lines of what is counted of the document that the file is, by its tree and its bytes
+pub record AreStats (file : File) (lines : List ℕ) : Type 0 where
   pub tree : Data
-  pub has : IsTreeOf document_kind tree bytes
-  pub told : lines ≡ stats_lines document_kind tree (length bytes)
+  pub has : IsTreeOf document_kind tree file
+  pub told : lines ≡ stats_lines document_kind tree (length file.1)

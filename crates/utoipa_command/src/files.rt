@@ -20,5 +20,5 @@ pub use layout::Layout;
 pub use listing::{operations, stats};
 pub use merging::merge;
 pub use nesting::nest;
-pub use utoipa_findings::{Refusal, Source};
+pub use utoipa_findings::{Form, Refusal, Source};
 pub use written::Written;

@@ -1,6 +1,7 @@
 //! The laws of what is written.
 ghost use Rattle.std.specs.Prelude.{◌≡◌, ℕ, List, [], true};
-ghost use Rattle.utoipa_command.specs.Files.{File, is_base, IsFormatted, IsMerge, IsNest};
+ghost use Rattle.utoipa_findings.specs.Sources.{File};
+ghost use Rattle.utoipa_command.specs.Files.{is_base, IsFormatted, IsMerge, IsNest};
 ghost use Rattle.utoipa_command.specs.Whole.{StandsFormatted, StandMerged, StandNested};
 ghost use Rattle.utoipa_command.specs.declared.files.layout.Layout.{Layout};
 

@@ -19,7 +19,7 @@ use Rattle.utoipa_base.specs.Kinds.{Kind}
 use Rattle.utoipa_base.specs.WellFormed.{ReadsAs}
 use Rattle.utoipa_findings.specs.ComesBack.{ComesBack}
 use Rattle.utoipa_findings.specs.Findings.{findings, losses, repeated_names, text_findings, text_losses}
-use Rattle.utoipa_findings.specs.Sources.{tree_of}
+use Rattle.utoipa_findings.specs.Sources.{File, seen, tree_of}
 use Rattle.utoipa_findings.proofs.ComesBack.{first_none, second_none, map_none, none_repeated, some_comes_back, unlost_comes_back}
 
 -- ---- a value that is read where arrays and objects may nest so deep is read where they may nest deeper
@@ -181,11 +181,13 @@ text_of_tree false o t is = cc
 in_tree : (bytes : List ℕ) (t : Data) → places_in (document bytes) ≡ [] → tree_of bytes ≡ Some t → HasText t bytes
 in_tree bytes t none has = text_in_tree bytes t none (text_of_tree (is_utf8 bytes) (read_text bytes) t has)
 
-pub text_comes_back : (k : Kind) (bytes : List ℕ) (t : Data) → tree_of bytes ≡ Some t → text_findings k bytes t ≡ [] → (d : Doc) × ComesBack k t d × HasText t bytes
-text_comes_back k bytes t has none =
-    let back = some_comes_back k t (second_none (repeated_names bytes) (findings k t) none) in
-    (back.0, back.1, in_tree bytes t (none_repeated bytes (findings k t) none) has)
+pub text_comes_back : (k : Kind) (x : File) (t : Data) → tree_of x.1 ≡ Some t → text_findings k x.1 (seen x.2 k t) ≡ [] → (d : Doc) × ComesBack k (seen x.2 k t) d × HasText t x.1
+text_comes_back k x t has none =
+    let looked_at = seen x.2 k t in
+    let back = some_comes_back k looked_at (second_none (repeated_names x.1) (findings k looked_at) none) in
+    (back.0, back.1, in_tree x.1 t (none_repeated x.1 (findings k looked_at) none) has)
 
-pub unlost_text : (k : Kind) (bytes : List ℕ) (t : Data) (d : Doc) → tree_of bytes ≡ Some t → ReadsAs k t d → text_losses k bytes t ≡ [] → ComesBack k t d × HasText t bytes
-unlost_text k bytes t d has reads none =
-    (unlost_comes_back k t d reads (second_none (repeated_names bytes) (losses k t) none), in_tree bytes t (none_repeated bytes (losses k t) none) has)
+pub unlost_text : (k : Kind) (x : File) (t : Data) (d : Doc) → tree_of x.1 ≡ Some t → ReadsAs k (seen x.2 k t) d → text_losses k x.1 (seen x.2 k t) ≡ [] → ComesBack k (seen x.2 k t) d × HasText t x.1
+unlost_text k x t d has reads none =
+    let looked_at = seen x.2 k t in
+    (unlost_comes_back k looked_at d reads (second_none (repeated_names x.1) (losses k looked_at) none), in_tree x.1 t (none_repeated x.1 (losses k looked_at) none) has)

@@ -4,6 +4,7 @@ pub mod Fitting
 pub mod Joined
 pub mod OnLines
 pub mod SortedWritten
+pub mod SortedAdapted
 pub mod ComesBack
 pub mod InText
 pub mod Standing

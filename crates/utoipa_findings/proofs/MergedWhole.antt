@@ -29,33 +29,45 @@ use Rattle.utoipa_merging.specs.Slots.{base, path_slot, item_slot, entry_at, ite
 use Rattle.utoipa_merging.proofs.JoinedLists.{all_in, joined_or_earlier}
 use Rattle.utoipa_merging.proofs.UnambiguousMerged.{merged_unambiguous}
 use Rattle.utoipa_findings.specs.Findings.{losses, repeated_names}
-use Rattle.utoipa_findings.specs.Standing.{IsUnlost, AreUnlost, AllStandIn, AreMergedWhole}
+use Rattle.utoipa_findings.specs.Sources.{File}
+use Rattle.utoipa_findings.specs.Standing.{seen_of, IsUnlost, AreUnlost, AllStandIn, AreMergedWhole}
 use Rattle.utoipa_findings.proofs.ComesBack.{second_none, undoubted_where_unlost}
 use Rattle.utoipa_findings.proofs.InText.{unlost_text}
+use Rattle.utoipa_findings.proofs.SortedAdapted.{seen_sorted}
 use Rattle.utoipa_findings.proofs.SortedWritten.{text_tree_sorted, written_once}
 use Rattle.utoipa_findings.proofs.Standing.{plain_place, value_is}
 use Rattle.utoipa_findings.proofs.TakenIn.{TakesIn, stands_in}
 
 -- ---- one file
 
-pub unlost_read : (text : List ℕ) (t : Data) (d : Doc) → IsUnlost text t d → IsRead t d
-unlost_read text t d u =
+pub unlost_read : (x : File) (t : Data) (d : Doc) → IsUnlost x t d → IsRead (seen_of x t) d
+unlost_read x t d u =
     let k = named open_api_object in
-    (sym (doubts_kept k t u.reads.0) ∙ undoubted_where_unlost k t (second_none (repeated_names text) (losses k t) u.nothing), u.reads.1)
+    let looked_at = seen_of x t in
+    (sym (doubts_kept k looked_at u.reads.0) ∙ undoubted_where_unlost k looked_at (second_none (repeated_names x.1) (losses k looked_at) u.nothing), u.reads.1)
 
-pub unlost_plain : (text : List ℕ) (t : Data) (d : Doc) → IsUnlost text t d → has_float (write d) ≡ false
-unlost_plain text t d u = write_plain d (read_plain (named open_api_object) t d u.reads.0 u.reads.1)
+pub unlost_plain : (x : File) (t : Data) (d : Doc) → IsUnlost x t d → has_float (write d) ≡ false
+unlost_plain x t d u = write_plain d (read_plain (named open_api_object) (seen_of x t) d u.reads.0 u.reads.1)
 
-pub unlost_table : (text : List ℕ) (t : Data) (d : Doc) → IsUnlost text t d → IsOpenApi d → IsTable open_api_object d
-unlost_table text t d u is = let r = unlost_read text t d u in clear_table open_api_object d is (undoubted_unambiguous (named open_api_object) t d r.0 r.1)
+pub unlost_unambiguous : (x : File) (t : Data) (d : Doc) → IsUnlost x t d → IsUnambiguous d
+unlost_unambiguous x t d u = let r = unlost_read x t d u in undoubted_unambiguous (named open_api_object) (seen_of x t) d r.0 r.1
+
+pub unlost_table : (x : File) (t : Data) (d : Doc) → IsUnlost x t d → IsOpenApi d → IsTable open_api_object d
+unlost_table x t d u is = clear_table open_api_object d is (unlost_unambiguous x t d u)
 
 -- each name stands once in an object of what a file's document is written as
-pub unlost_once : (text : List ℕ) (t : Data) (d : Doc) → IsUnlost text t d → IsNamedOnce (write d)
-unlost_once text t d u = written_once (named open_api_object) t d (text_tree_sorted text t u.has) u.reads.1
+pub unlost_once : (x : File) (t : Data) (d : Doc) → IsUnlost x t d → IsNamedOnce (write d)
+unlost_once x t d u = written_once (named open_api_object) (seen_of x t) d (seen_sorted x.2 (named open_api_object) t (text_tree_sorted x.1 t u.has)) u.reads.1
 
 -- ---- files
 
-all_read : (xs : List (List ℕ)) (ts : List Data) (ds : List Doc) → AreUnlost xs ts ds → AreRead ts ds
+-- the trees of files, as they are looked at
+abbrev all_seen : List File → List Data → List Data
+all_seen [] ts = []
+all_seen (x ∷ xs) [] = []
+all_seen (x ∷ xs) (t ∷ ts) = seen_of x t ∷ all_seen xs ts
+
+all_read : (xs : List File) (ts : List Data) (ds : List Doc) → AreUnlost xs ts ds → AreRead (all_seen xs ts) ds
 all_read [] [] [] h = tt
 all_read (x ∷ xs) (t ∷ ts) (d ∷ ds) h = (unlost_read x t d h.0, all_read xs ts ds h.1)
 all_read [] [] (d ∷ ds) h = absurd h
@@ -63,15 +75,15 @@ all_read [] (t ∷ ts) ds h = absurd h
 all_read (x ∷ xs) [] ds h = absurd h
 all_read (x ∷ xs) (t ∷ ts) [] h = absurd h
 
-all_clear : (xs : List (List ℕ)) (ts : List Data) (ds : List Doc) → AreUnlost xs ts ds → AllByRecursion IsUnambiguous ds
+all_clear : (xs : List File) (ts : List Data) (ds : List Doc) → AreUnlost xs ts ds → AllByRecursion IsUnambiguous ds
 all_clear [] [] [] h = tt
-all_clear (x ∷ xs) (t ∷ ts) (d ∷ ds) h = let r = unlost_read x t d h.0 in (undoubted_unambiguous (named open_api_object) t d r.0 r.1, all_clear xs ts ds h.1)
+all_clear (x ∷ xs) (t ∷ ts) (d ∷ ds) h = (unlost_unambiguous x t d h.0, all_clear xs ts ds h.1)
 all_clear [] [] (d ∷ ds) h = absurd h
 all_clear [] (t ∷ ts) ds h = absurd h
 all_clear (x ∷ xs) [] ds h = absurd h
 all_clear (x ∷ xs) (t ∷ ts) [] h = absurd h
 
-all_once : (xs : List (List ℕ)) (ts : List Data) (ds : List Doc) → AreUnlost xs ts ds → AllByRecursion IsNamedOnce (written ds)
+all_once : (xs : List File) (ts : List Data) (ds : List Doc) → AreUnlost xs ts ds → AllByRecursion IsNamedOnce (written ds)
 all_once [] [] [] h = tt
 all_once (x ∷ xs) (t ∷ ts) (d ∷ ds) h = (unlost_once x t d h.0, all_once xs ts ds h.1)
 all_once [] [] (d ∷ ds) h = absurd h
@@ -127,18 +139,18 @@ pub not_none : {A : Type 0} (xs : List A) (x : A) (B : Type 0) → Contains [] x
 not_none xs x B (inl h) = absurd (omega (arith, h.1))
 not_none xs x B (inr h) = h
 
-taken_in : (texts : List (List ℕ)) (trees : List Data) (ds : List Doc) (d : Doc) → AreMergedWhole texts trees ds d → (j : ℕ) (text : List ℕ) (tree : Data) (c : Doc) → slice_get ds j ≡ Some c → IsUnlost text tree c
+taken_in : (files : List File) (trees : List Data) (ds : List Doc) (d : Doc) → AreMergedWhole files trees ds d → (j : ℕ) (x : File) (tree : Data) (c : Doc) → slice_get ds j ≡ Some c → IsUnlost x tree c
     → IsOpenApi c → IsNamedOnce (write c) → TakesIn c d
-taken_in texts trees ds d m j text tree c at u kind once =
-    let read : AreReadAndMerged trees ds d = record { each = m.each; were_read = all_read texts trees ds m.files; merged = m.merged; ordered = m.ordered } in
-    let there : IsAllThere ds d = (nothing_of_read trees ds d read (All-from_recursion IsNamedOnce (written ds) (all_once texts trees ds m.files))).0 m.nothing in
-    let clear = All-from_recursion IsUnambiguous ds (all_clear texts trees ds m.files) in
+taken_in files trees ds d m j x tree c at u kind once =
+    let read : AreReadAndMerged (all_seen files trees) ds d = record { each = m.each; were_read = all_read files trees ds m.unlost; merged = m.merged; ordered = m.ordered } in
+    let there : IsAllThere ds d = (nothing_of_read (all_seen files trees) ds d read (All-from_recursion IsNamedOnce (written ds) (all_once files trees ds m.unlost))).0 m.nothing in
+    let clear = All-from_recursion IsUnambiguous ds (all_clear files trees ds m.unlost) in
     let values : (s : Slot) (v : Data) → IsOneOf (s, v) (slots (write c)) → at_place (place s) (write d) ≡ Some v =
-    λ s v h. value_is v (at_place (place s) (write d)) (plain_place (place s) (write c) v (slot_stands (write c) (s, v) once h) (unlost_plain text tree c u)) (there j s v (write c, tree_at ds j c at, h))
+    λ s v h. value_is v (at_place (place s) (write d)) (plain_place (place s) (write c) v (slot_stands (write c) (s, v) once h) (unlost_plain x tree c u)) (there j s v (write c, tree_at ds j c at, h))
     in
     record {
       rest = record {
-        own = unlost_table text tree c u kind;
+        own = unlost_table x tree c u kind;
         all = clear_table open_api_object d m.merged.of_kind (merged_unambiguous ds d m.merged m.each clear m.ordered);
         values = λ s v h rest. values s v h;
         components = λ is. m.merged.components.there ∙ some_any is_there (map components_of ds) j (components_of c) (map_at components_of ds j c at) is;
@@ -159,17 +171,17 @@ taken_in texts trees ds d m j text tree c at u kind once =
 
 -- ---- all of them
 
-each_stands : (d : Doc) (xs : List (List ℕ)) (ts : List Data) (ds : List Doc) → AreUnlost xs ts ds → AllByRecursion IsOpenApi ds → AllByRecursion IsNamedOnce (written ds)
-    → ((j : ℕ) (text : List ℕ) (tree : Data) (c : Doc) → slice_get ds j ≡ Some c → IsUnlost text tree c → IsOpenApi c → IsNamedOnce (write c) → TakesIn c d) → AllStandIn (write d) xs ts
+each_stands : (d : Doc) (xs : List File) (ts : List Data) (ds : List Doc) → AreUnlost xs ts ds → AllByRecursion IsOpenApi ds → AllByRecursion IsNamedOnce (written ds)
+    → ((j : ℕ) (x : File) (tree : Data) (c : Doc) → slice_get ds j ≡ Some c → IsUnlost x tree c → IsOpenApi c → IsNamedOnce (write c) → TakesIn c d) → AllStandIn (write d) xs ts
 each_stands d [] [] [] h kinds once takes = tt
 each_stands d (x ∷ xs) (t ∷ ts) (c ∷ ds) h kinds once takes =
     let back = unlost_text (named open_api_object) x t c h.0.has h.0.reads h.0.nothing in
-    (back.1, stands_in c d (takes 0 x t c refl h.0 kinds.0 once.0) t back.0.kept, each_stands d xs ts ds h.1 kinds.1 once.1 (λ j text tree e at u k o. takes (suc j) text tree e at u k o))
+    (back.1, stands_in c d (takes 0 x t c refl h.0 kinds.0 once.0) (seen_of x t) back.0.kept, each_stands d xs ts ds h.1 kinds.1 once.1 (λ j y tree e at u k o. takes (suc j) y tree e at u k o))
 each_stands d [] [] (c ∷ ds) h kinds once takes = absurd h
 each_stands d [] (t ∷ ts) ds h kinds once takes = absurd h
 each_stands d (x ∷ xs) [] ds h kinds once takes = absurd h
 each_stands d (x ∷ xs) (t ∷ ts) [] h kinds once takes = absurd h
 
-pub all_stand_in : (texts : List (List ℕ)) (trees : List Data) (documents : List Doc) (d : Doc) → AreMergedWhole texts trees documents d → AllStandIn (write d) texts trees
-all_stand_in texts trees documents d m =
-    each_stands d texts trees documents m.files (recursion_from_All IsOpenApi documents m.each) (all_once texts trees documents m.files) (taken_in texts trees documents d m)
+pub all_stand_in : (files : List File) (trees : List Data) (documents : List Doc) (d : Doc) → AreMergedWhole files trees documents d → AllStandIn (write d) files trees
+all_stand_in files trees documents d m =
+    each_stands d files trees documents m.unlost (recursion_from_All IsOpenApi documents m.each) (all_once files trees documents m.unlost) (taken_in files trees documents d m)

@@ -12,13 +12,11 @@ use Rattle.utoipa_base.specs.Docs.{Doc, Entries, no_entries}
 use Rattle.utoipa_base.specs.EachMember.{each_member}
 use Rattle.utoipa_base.specs.Extensions.{is_extension, members_or_none}
 use Rattle.utoipa_base.specs.Kinds.{open_api_object, named}
-use Rattle.utoipa_base.specs.WellFormed.{IsUnambiguous}
 use Rattle.utoipa_base.specs.Writing.{write}
 use Rattle.utoipa_base.proofs.BoolFacts.{and_first, not_true}
 use Rattle.utoipa_check.specs.Has.{Written, Has, HasMembers}
 use Rattle.utoipa_check.specs.Misfits.{at_name}
 use Rattle.utoipa_check.specs.Places.{members_at}
-use Rattle.utoipa_check.proofs.Undoubted.{undoubted_unambiguous}
 use Rattle.utoipa_conflicts.specs.Conflicts.{Slot, document_member, component_entry, components_extension, paths_extension, operation, named_operation, base_member, Filled, one_slot, item_slots, path_slots, member_slots, slots, place, place_of_item}
 use Rattle.utoipa_conflicts.specs.Holders.{EachMember, IsNamedOnce}
 use Rattle.utoipa_conflicts.specs.IsConflict.{IsOneOf}
@@ -37,9 +35,10 @@ use Rattle.utoipa_merging.specs.Slots.{field_at, extensions_in, items_in, entry_
 use Rattle.utoipa_merging.proofs.JoinedLists.{joined_or_earlier}
 use Rattle.utoipa_merging.proofs.Nesting.{nested_extension_values}
 use Rattle.utoipa_conflicts.proofs.NestedPaths.{nested_table}
-use Rattle.utoipa_findings.specs.Standing.{StandsBehind, EntryBehind, PathsBehind, MemberBehind, AreNestedWhole, BothStand, IsUnlost}
+use Rattle.utoipa_findings.specs.Sources.{File}
+use Rattle.utoipa_findings.specs.Standing.{seen_of, StandsBehind, EntryBehind, PathsBehind, MemberBehind, AreNestedWhole, BothStand}
 use Rattle.utoipa_findings.proofs.InText.{unlost_text}
-use Rattle.utoipa_findings.proofs.MergedWhole.{unlost_once, unlost_read, unlost_plain, unlost_table, some_any, map_at, in_all, not_none}
+use Rattle.utoipa_findings.proofs.MergedWhole.{unlost_once, unlost_plain, unlost_table, unlost_unambiguous, some_any, map_at, in_all, not_none}
 use Rattle.utoipa_findings.proofs.Standing.{by_member, behind_step, plain_place, value_is}
 use Rattle.utoipa_findings.proofs.TakenIn.{TakesRest, TakesIn, written_is, rest_stands, under_paths_is, paths_object, stands_in}
 
@@ -94,31 +93,28 @@ answered_item base path y (i ∷ items) (inr h) = inr (answered_item base path y
 under_item : (c : Doc) (path : List ℕ) → IsTable open_api_object c → at_place (place_of_item path) (write c) ≡ get path (write (paths_of c))
 under_item c path t = behind_step (codes "paths") (at_name path ∷ []) (write c) (write (paths_of c)) (under_paths c t) ∙ one_step path (write (paths_of c))
 
-module _ (base own_text other_text : List ℕ) (own_tree other_tree : Data) (own other d : Doc) (n : AreNestedWhole base own_text other_text own_tree other_tree own other d) where
+module _ (base : List ℕ) (own_file other_file : File) (own_tree other_tree : Data) (own other d : Doc) (n : AreNestedWhole base own_file other_file own_tree other_tree own other d) where
   own_once : IsNamedOnce (write own)
-  own_once = unlost_once own_text own_tree own n.own_file
+  own_once = unlost_once own_file own_tree own n.own_unlost
 
   other_once : IsNamedOnce (write other)
-  other_once = unlost_once other_text other_tree other n.other_file
+  other_once = unlost_once other_file other_tree other n.other_unlost
 
   abbrev answers : List (List ℕ)
   answers = behind base (write other)
 
   own_is : IsTable open_api_object own
-  own_is = unlost_table own_text own_tree own n.own_file n.own_kind
+  own_is = unlost_table own_file own_tree own n.own_unlost n.own_kind
 
   other_is : IsTable open_api_object other
-  other_is = unlost_table other_text other_tree other n.other_file n.other_kind
-
-  clear : (text : List ℕ) (t : Data) (c : Doc) → IsUnlost text t c → IsUnambiguous c
-  clear text t c u = let r = unlost_read text t c u in undoubted_unambiguous (named open_api_object) t c r.0 r.1
+  other_is = unlost_table other_file other_tree other n.other_unlost n.other_kind
 
   into : AreNestedInto answers own other d
   into = record {
     own_kind = n.own_kind;
     other_kind = n.other_kind;
-    own_unambiguous = clear own_text own_tree own n.own_file;
-    other_unambiguous = clear other_text other_tree other n.other_file;
+    own_unambiguous = unlost_unambiguous own_file own_tree own n.own_unlost;
+    other_unambiguous = unlost_unambiguous other_file other_tree other n.other_unlost;
     own_ordered = n.own_ordered;
     other_ordered = n.other_ordered;
     answered = n.answered;
@@ -139,7 +135,7 @@ module _ (base own_text other_text : List ℕ) (own_tree other_tree : Data) (own
   own_item : (path : List ℕ) (y : Data) → is_extension path ≡ false → at_place (place_of_item path) (write own) ≡ Some y → at_place (place_of_item path) (write d) ≡ Some y
   own_item path y plain is =
       let one = listed_item own path y own_is plain (sym (under_item own path own_is) ∙ is) in
-      value_is y (at_place (place_of_item path) (write d)) (plain_place (place_of_item path) (write own) y is (unlost_plain own_text own_tree own n.own_file))
+      value_is y (at_place (place_of_item path) (write d)) (plain_place (place_of_item path) (write own) y is (unlost_plain own_file own_tree own n.own_unlost))
       (is_true _ (λ lacks. none_lost (place_of_item path) 0 (inl (refl, ((path, y), one, refl, lacks)))))
 
   own_under : (path : List ℕ) (ss : Place) (v : Data) → is_extension path ≡ false → at_place (place_of_item path ++ ss) (write own) ≡ Some v → at_place (place_of_item path ++ ss) (write d) ≡ Some v
@@ -216,7 +212,7 @@ module _ (base own_text other_text : List ℕ) (own_tree other_tree : Data) (own
 
   other_value : (s : Slot) (v : Data) → IsOneOf (s, v) (slots (write other)) → is_of_item s ≡ false → at_place (place s) (write d) ≡ Some v
   other_value s v h rest =
-      value_is v (at_place (place s) (write d)) (plain_place (place s) (write other) v (slot_stands (write other) (s, v) other_once h) (unlost_plain other_text other_tree other n.other_file))
+      value_is v (at_place (place s) (write d)) (plain_place (place s) (write other) v (slot_stands (write other) (s, v) other_once h) (unlost_plain other_file other_tree other n.other_unlost))
       (is_true _ (λ lacks. none_lost (place s) 1 (inr (refl, inr (s, v, refl, h, rest, lacks)))))
 
   other_taken : TakesRest other d
@@ -228,7 +224,7 @@ module _ (base own_text other_text : List ℕ) (own_tree other_tree : Data) (own
       let one = answered_item base path y (path_items (write other)) (listed_item other path y other_is plain is) in
       let p = place_of_item (base ++ path) in
       sym (under_item d (base ++ path) all_is)
-      ∙ value_is y (at_place p (write d)) (plain_place (place_of_item path) (write other) y (under_item other path other_is ∙ is) (unlost_plain other_text other_tree other n.other_file))
+      ∙ value_is y (at_place p (write d)) (plain_place (place_of_item path) (write other) y (under_item other path other_is ∙ is) (unlost_plain other_file other_tree other n.other_unlost))
       (is_true _ (λ lacks. none_lost p 1 (inr (refl, inl ((base ++ path, y), one, refl, lacks)))))
 
   other_extension : (name : List ℕ) (y : Data) → is_extension name ≡ true → get name (write (paths_of other)) ≡ Some y → get name (write (paths_of d)) ≡ Some y
@@ -276,13 +272,13 @@ module _ (base own_text other_text : List ℕ) (own_tree other_tree : Data) (own
   stands_behind (array ds) h = tt
   stands_behind (object ms) h = members_behind ms h.1
 
-  pub both_stand : BothStand base (write d) own_text other_text own_tree other_tree
+  pub both_stand : BothStand base (write d) own_file other_file own_tree other_tree
   both_stand =
-      let own_back = unlost_text (named open_api_object) own_text own_tree own n.own_file.has n.own_file.reads n.own_file.nothing in
-      let other_back = unlost_text (named open_api_object) other_text other_tree other n.other_file.has n.other_file.reads n.other_file.nothing in
+      let own_back = unlost_text (named open_api_object) own_file own_tree own n.own_unlost.has n.own_unlost.reads n.own_unlost.nothing in
+      let other_back = unlost_text (named open_api_object) other_file other_tree other n.other_unlost.has n.other_unlost.reads n.other_unlost.nothing in
       record {
         own_text = own_back.1;
         other_text = other_back.1;
-        own = stands_in own d own_taken own_tree own_back.0.kept;
-        other = stands_behind other_tree other_back.0.kept;
+        own = stands_in own d own_taken (seen_of own_file own_tree) own_back.0.kept;
+        other = stands_behind (seen_of other_file other_tree) other_back.0.kept;
       }

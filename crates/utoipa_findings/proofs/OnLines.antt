@@ -16,7 +16,7 @@ use Rattle.utoipa_check.proofs.WholeLines.{IsEnded, decimal_line, end_of, printe
 use Rattle.utoipa_conflicts.specs.Conflicts.{Conflict}
 use Rattle.utoipa_findings.specs.Findings.{What, unfit, doubtful, lost, dangles, repeated, Finding}
 use Rattle.utoipa_findings.specs.Lines.{loss_text, what_text, place_text, finding_text, finding_line, lines_of, name_at, drop_line, conflict_line, nested_line}
-use Rattle.utoipa_findings.specs.Sources.{text_line, first_byte, looks, no_tree, IsTreelessLine}
+use Rattle.utoipa_findings.specs.Sources.{File, text_line, first_byte, looks, no_tree, IsTreelessLine}
 use Rattle.utoipa_findings.specs.Told.{IsTold, lines_due}
 
 -- ---- findings
@@ -77,9 +77,9 @@ treeless_is_a_line name bytes told h =
 
 -- ---- what is told of a file
 
-pub told_are_lines : (f : Data → List Finding) (name bytes : List ℕ) (tree : Option Data) (told : List ℕ) → IsTold f name bytes tree told → AreLines (lines_due f tree) told
-told_are_lines f name bytes None told h = treeless_is_a_line name bytes told h
-told_are_lines f name bytes (Some t) told h = subst (AreLines (length (f t))) (sym h) (findings_are_lines name (f t))
+pub told_are_lines : (f : Data → List Finding) (x : File) (tree : Option Data) (told : List ℕ) → IsTold f x tree told → AreLines (lines_due f tree) told
+told_are_lines f x None told h = treeless_is_a_line x.0 x.1 told h
+told_are_lines f x (Some t) told h = subst (AreLines (length (f t))) (sym h) (findings_are_lines x.0 (f t))
 
 -- ---- what merging and nesting drop
 

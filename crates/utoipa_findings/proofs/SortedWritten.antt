@@ -31,7 +31,7 @@ use Rattle.utoipa_findings.specs.Sources.{tree_of}
 -- ---- what is sorted
 
 -- the name comes before all of these
-abbrev IsBelow : List ℕ → List (List ℕ) → Type 0
+abbrev pub IsBelow : List ℕ → List (List ℕ) → Type 0
 IsBelow k names = AllByRecursion (λ l. slice_cmp nat_cmp k l ≡ Less) names
 
 -- a document that is written as a sorted tree
@@ -508,7 +508,7 @@ member_sorted k no_members h = tt
 member_sorted k (member l d ms) h =
     by_order (λ o. IfSome o IsSorted) (slice_cmp nat_cmp k l) (get_member k ms) (Some d) (get_member k ms) (member_sorted k ms h.1) h.0 (member_sorted k ms h.1)
 
-got_sorted : (k : List ℕ) (t : Data) → IsSorted t → IfSome (get k t) IsSorted
+pub got_sorted : (k : List ℕ) (t : Data) → IsSorted t → IfSome (get k t) IsSorted
 got_sorted k null h = tt
 got_sorted k (boolean b) h = tt
 got_sorted k (number n) h = tt

@@ -1,12 +1,19 @@
--- The bytes of a file as a text, and a text as a document.
-use Rattle.std.specs.Prelude.{◌≡◌, ℕ, List, [], ◌∷◌, ◌++◌, ◌==◌, ◌||◌, Bool, if◌then◌else◌, Option, None, Some, codes, decimal}
+-- For users: files, the tree that each is looked at as, and the document that it is.
+use Rattle.std.specs.Prelude.{◌≡◌, ℕ, List, [], ◌∷◌, ◌++◌, ◌==◌, ◌||◌, Bool, if◌then◌else◌, Option, None, Some, option_map, codes, decimal}
 use Rattle.std.specs.Str.{is_utf8}
 use Rattle.serde_json.specs.Data.{Data}
 use Rattle.serde_json.specs.Read.{read as read_text}
+use Rattle.serde_json.specs.Find.{get}
+use Rattle.utoipa_adapt.specs.Adapted.{adapted, upgraded}
+use Rattle.utoipa_adapt.specs.Rules.{is_3_0}
+use Rattle.utoipa_adapt.specs.Trees.{is_text, passes}
 use Rattle.utoipa_base.specs.Docs.{Doc}
 use Rattle.utoipa_base.specs.Kinds.{Kind}
 use Rattle.utoipa_base.specs.WellFormed.{ReadsAs}
 use Rattle.utoipa_check.specs.Shown.{shown}
+use Rattle.utoipa_findings.specs.declared.source.Form.{Form}
+use Rattle.utoipa_findings.specs.declared.source.Form.TheVariants.{AsIs, Adapted, Upgraded}
+use Rattle.utoipa_findings.specs.declared.source.Source.{Source}
 
 -- the tree of the bytes, if they are UTF-8 and JSON
 abbrev pub tree_of : List ℕ → Option Data
@@ -18,9 +25,43 @@ pub record IsSourceOf (k : Kind) (d : Doc) (bytes : List ℕ) : Type 0 where
   pub has : tree_of bytes ≡ Some tree
   pub reads : ReadsAs k tree d
 
--- the bytes have this tree, which is read as a document of the kind
-pub record IsTreeOf (k : Kind) (t : Data) (bytes : List ℕ) : Type 0 where
-  pub has : tree_of bytes ≡ Some t
+-- ---- files
+
+-- a file: its name, its bytes, and the form in which its tree is looked at
+abbrev pub File : Type 0
+File = List ℕ × List ℕ × Form
+
+abbrev pub file_of : Source → File
+file_of s = (s.name.now, s.bytes.now, s.form)
+
+-- whether a tree is that of an OpenAPI 3.0 document, by its version
+abbrev pub is_of_3_0 : Data → Bool
+is_of_3_0 t = passes (is_text is_3_0) (get (codes "openapi") t)
+
+-- a tree, upgraded to one of 3.1 if it is of 3.0
+abbrev pub upgraded_from_3_0 : Kind → Data → Data
+upgraded_from_3_0 k t = if is_of_3_0 t then upgraded k t else t
+
+-- a tree that is to be a document of a kind, as it is looked at: as it is, or adapted to what the model reads, with its meaning; and before that
+-- upgraded
+abbrev pub seen : Form → Kind → Data → Data
+seen AsIs k t = t
+seen Adapted k t = adapted k t
+seen Upgraded k t = adapted k (upgraded_from_3_0 k t)
+
+-- the tree of a file that is to be a document of a kind, if its bytes are UTF-8 and JSON
+abbrev pub file_tree : Kind → File → Option Data
+file_tree k x = option_map (seen x.2 k) (tree_of x.1)
+
+-- the file has a tree without fractions, which is read as this document of the kind
+pub record IsFileOf (k : Kind) (d : Doc) (x : File) : Type 0 where
+  pub tree : Data
+  pub has : file_tree k x ≡ Some tree
+  pub reads : ReadsAs k tree d
+
+-- the file has this tree, which is read as a document of the kind
+pub record IsTreeOf (k : Kind) (t : Data) (x : File) : Type 0 where
+  pub has : file_tree k x ≡ Some t
   pub document : Doc
   pub reads : ReadsAs k t document
 

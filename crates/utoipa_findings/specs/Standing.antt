@@ -19,18 +19,23 @@ use Rattle.utoipa_merging.specs.Merged.{IsOpenApi, IsMerged, IsInKeyOrder}
 use Rattle.utoipa_merging.specs.Nested.{IsNested}
 use Rattle.utoipa_findings.specs.Findings.{text_losses}
 use Rattle.utoipa_findings.specs.InText.{HasText}
-use Rattle.utoipa_findings.specs.Sources.{tree_of}
+use Rattle.utoipa_findings.specs.Sources.{File, seen, tree_of}
 
 -- ---- files of which nothing is lost
 
--- the text has this tree, which is read as this document, and the document loses nothing of the text when it is written again
-pub record IsUnlost (text : List ℕ) (t : Data) (d : Doc) : Type 0 where
-  pub has : tree_of text ≡ Some t
-  pub reads : ReadsAs (named open_api_object) t d
-  pub nothing : text_losses (named open_api_object) text t ≡ []
+-- a tree that is to be an OpenAPI document, as the file is looked at
+abbrev pub seen_of : File → Data → Data
+seen_of x t = seen x.2 (named open_api_object) t
 
--- the same of texts, trees and documents, one after the other
-abbrev pub AreUnlost : List (List ℕ) → List Data → List Doc → Type 0
+-- the file's text has this tree, which is read as this document, as it is looked at, and the document loses nothing of the text when it is written
+-- again
+pub record IsUnlost (x : File) (t : Data) (d : Doc) : Type 0 where
+  pub has : tree_of x.1 ≡ Some t
+  pub reads : ReadsAs (named open_api_object) (seen_of x t) d
+  pub nothing : text_losses (named open_api_object) x.1 (seen_of x t) ≡ []
+
+-- the same of files, their trees and documents, one after the other
+abbrev pub AreUnlost : List File → List Data → List Doc → Type 0
 AreUnlost [] [] [] = Unit {0}
 AreUnlost (x ∷ xs) (t ∷ ts) (d ∷ ds) = IsUnlost x t d × AreUnlost xs ts ds
 AreUnlost xs ts ds = ⊥
@@ -77,24 +82,24 @@ StandsBehind base m t = EachMember (λ name x. MemberBehind base (bytes_eq name 
 -- ---- files that are merged, or nested
 
 -- Files of which nothing is lost, and the document that their documents are merged into, where merging drops nothing.
-pub record AreMergedWhole (texts : List (List ℕ)) (trees : List Data) (documents : List Doc) (d : Doc) : Type 0 where
-  pub files : AreUnlost texts trees documents
+pub record AreMergedWhole (files : List File) (trees : List Data) (documents : List Doc) (d : Doc) : Type 0 where
+  pub unlost : AreUnlost files trees documents
   pub each : All IsOpenApi documents
   pub merged : IsMerged documents d
   pub ordered : IsInKeyOrder d
   pub nothing : conflicts (written documents) ≡ []
 
--- all of each file stands in the merged tree
-abbrev pub AllStandIn : (m : Data) → List (List ℕ) → List Data → Type 0
+-- all of each file's text stands in its tree, and all of that, as it is looked at, in the merged tree
+abbrev pub AllStandIn : (m : Data) → List File → List Data → Type 0
 AllStandIn m [] [] = Unit {0}
-AllStandIn m (x ∷ xs) (t ∷ ts) = HasText t x × StandsIn m t × AllStandIn m xs ts
+AllStandIn m (x ∷ xs) (t ∷ ts) = HasText t x.1 × StandsIn m (seen_of x t) × AllStandIn m xs ts
 AllStandIn m xs ts = ⊥
 
 -- Two files of which nothing is lost, and what comes of nesting the second's document into that of the first behind a base, where that drops
 -- nothing.
-pub record AreNestedWhole (base own_text other_text : List ℕ) (own_tree other_tree : Data) (own other d : Doc) : Type 0 where
-  pub own_file : IsUnlost own_text own_tree own
-  pub other_file : IsUnlost other_text other_tree other
+pub record AreNestedWhole (base : List ℕ) (own_file other_file : File) (own_tree other_tree : Data) (own other d : Doc) : Type 0 where
+  pub own_unlost : IsUnlost own_file own_tree own
+  pub other_unlost : IsUnlost other_file other_tree other
   pub own_kind : IsOpenApi own
   pub other_kind : IsOpenApi other
   pub own_ordered : IsInKeyOrder own
@@ -104,9 +109,9 @@ pub record AreNestedWhole (base own_text other_text : List ℕ) (own_tree other_
   pub ordered : IsInKeyOrder d
   pub nothing : nested_conflicts (behind base (write other)) (write own) (write other) ≡ []
 
--- all of both files stands in what comes of it
-pub record BothStand (base : List ℕ) (m : Data) (first second : List ℕ) (t u : Data) : Type 0 where
-  pub own_text : HasText t first
-  pub other_text : HasText u second
-  pub own : StandsIn m t
-  pub other : StandsBehind base m u
+-- all of both files' texts stands in their trees, and all of these, as they are looked at, in what comes of it
+pub record BothStand (base : List ℕ) (m : Data) (first second : File) (t u : Data) : Type 0 where
+  pub own_text : HasText t first.1
+  pub other_text : HasText u second.1
+  pub own : StandsIn m (seen_of first t)
+  pub other : StandsBehind base m (seen_of second u)

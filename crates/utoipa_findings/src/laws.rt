@@ -15,7 +15,7 @@ ghost use Rattle.utoipa_findings.specs.ComesBack.{ComesBack};
 ghost use Rattle.utoipa_findings.specs.Findings.{Finding, findings, text_findings, text_losses};
 ghost use Rattle.utoipa_findings.specs.InText.{HasText};
 ghost use Rattle.utoipa_findings.specs.Lines.{conflict_line, nested_line};
-ghost use Rattle.utoipa_findings.specs.Sources.{IsTreelessLine, tree_of};
+ghost use Rattle.utoipa_findings.specs.Sources.{File, IsTreelessLine, seen, tree_of};
 ghost use Rattle.utoipa_findings.specs.Standing.{AllStandIn, AreMergedWhole, AreNestedWhole, BothStand};
 ghost use Rattle.utoipa_findings.specs.Told.{IsTold, lines_due};
 
@@ -29,21 +29,22 @@ use utoipa_base::Tree;
 /// `description` where the tree has no such member, with which external docs are written. So it is the tree itself, but for such nulls and for
 /// the order of members.
 ///
-/// A text in which nothing is found has each name once in an object, so each value of the text stands at its place in the tree.
+/// A file in which nothing is found has each name once in an object, so each value of its text stands at its place in its tree. What comes back is
+/// that tree as it is looked at: as it is, or adapted, with its meaning.
 ///
 /// A value that was read of the tree is that document. What the value is written as reads as the value again, in every member.
 ///
 /// The first and the third hold of a document that loses nothing, too, whatever else is found in it.
 ///
-/// The tree of a text and what its document is written as have the members of each object in the order of their names; so each name stands once.
+/// The tree of a file, as it is looked at, and what its document is written as have the members of each object in the order of their names; so each name stands once.
 pub fn nothing_found_comes_back<T: Tree>(tree: &Value, value: &T)
     ensures document { (k : Kind) → findings k (view tree.now) ≡ [] → (d : Doc) × ComesBack k (view tree.now) d }
-    ensures text { (k : Kind) (text : List ℕ) (t : Data) → tree_of text ≡ Some t → text_findings k text t ≡ []
-        → (d : Doc) × ComesBack k t d × HasText t text }
-    ensures unlost { (k : Kind) (text : List ℕ) (t : Data) (d : Doc) → tree_of text ≡ Some t → ReadsAs k t d → text_losses k text t ≡ []
-        → ComesBack k t d × HasText t text }
-    ensures ordered { (k : Kind) (text : List ℕ) (t : Data) (d : Doc) → tree_of text ≡ Some t → read k t ≡ Some d
-        → IsSorted t × IsSorted (write d) }
+    ensures text { (k : Kind) (x : File) (t : Data) → tree_of x.1 ≡ Some t → text_findings k x.1 (seen x.2 k t) ≡ []
+        → (d : Doc) × ComesBack k (seen x.2 k t) d × HasText t x.1 }
+    ensures unlost { (k : Kind) (x : File) (t : Data) (d : Doc) → tree_of x.1 ≡ Some t → ReadsAs k (seen x.2 k t) d
+        → text_losses k x.1 (seen x.2 k t) ≡ [] → ComesBack k (seen x.2 k t) d × HasText t x.1 }
+    ensures ordered { (k : Kind) (x : File) (t : Data) (d : Doc) → tree_of x.1 ≡ Some t → read k (seen x.2 k t) ≡ Some d
+        → IsSorted (seen x.2 k t) × IsSorted (write d) }
     ensures value { findings T.kind (view tree.now) ≡ [] → read T.kind (view tree.now) ≡ Some (T.doc value.now)
         → ComesBack T.kind (view tree.now) (T.doc value.now) }
     ensures again { findings T.kind (view tree.now) ≡ [] → read T.kind (view tree.now) ≡ Some (T.doc value.now)
@@ -51,27 +52,27 @@ pub fn nothing_found_comes_back<T: Tree>(tree: &Value, value: &T)
 {}
 
 /// Where nothing is lost of the files and merging their documents drops nothing, each value of each file's text stands in its tree, and each
-/// value of its tree stands in the tree that the merged document is written as, at its place; of a list that merging joins, each item is one of
-/// the items there.
+/// value of its tree, as it is looked at, stands in the tree that the merged document is written as, at its place; of a list that merging joins,
+/// each item is one of the items there.
 pub fn merged_files_stand_whole()
-    ensures { (texts : List (List ℕ)) (trees : List Data) (documents : List Doc) (d : Doc)
-        → AreMergedWhole texts trees documents d → AllStandIn (write d) texts trees }
+    ensures { (files : List File) (trees : List Data) (documents : List Doc) (d : Doc)
+        → AreMergedWhole files trees documents d → AllStandIn (write d) files trees }
 {}
 
 /// The same of a file that is nested into another: where nothing is lost of both and nesting drops nothing, each value of the one that is nested
 /// into stands at its place in the tree that what comes of it is written as, and each value of the nested one too, but what is at a path behind
 /// the base.
 pub fn nested_files_stand_whole()
-    ensures { (base own_text other_text : List ℕ) (own_tree other_tree : Data) (own other d : Doc)
-        → AreNestedWhole base own_text other_text own_tree other_tree own other d
-        → BothStand base (write d) own_text other_text own_tree other_tree }
+    ensures { (base : List ℕ) (own_file other_file : File) (own_tree other_tree : Data) (own other d : Doc)
+        → AreNestedWhole base own_file other_file own_tree other_tree own other d
+        → BothStand base (write d) own_file other_file own_tree other_tree }
 {}
 
 /// What is told is lines, whatever a document, a text or a file's name has: one for each finding, or one that the file has no tree; and one for each
 /// value that merging or nesting drops. Each is ended by a line feed, and nothing else is hidden in it.
 pub fn told_is_lines()
-    ensures findings { (f : Data → List Finding) (name bytes : List ℕ) (tree : Option Data) (told : List ℕ)
-        → IsTold f name bytes tree told → AreLines (lines_due f tree) told }
+    ensures findings { (f : Data → List Finding) (x : File) (tree : Option Data) (told : List ℕ)
+        → IsTold f x tree told → AreLines (lines_due f tree) told }
     ensures treeless { (name bytes told : List ℕ) → IsTreelessLine name bytes told → AreLines 1 told }
     ensures conflicts { (names : List (List ℕ)) (cs : List Conflict) → AreLines (length cs) (flat_map (conflict_line names) cs) }
     ensures nested { (names : List (List ℕ)) (cs : List Conflict) → AreLines (length cs) (flat_map (nested_line names) cs) }

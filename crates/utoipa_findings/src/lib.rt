@@ -33,4 +33,4 @@ pub use reading::{document_of, tree_of_document};
 pub use refusal::Refusal;
 pub use repeated::repeated_names;
 pub use report::{check, findings};
-pub use source::Source;
+pub use source::{Form, Source};

@@ -8,7 +8,7 @@ ghost use Rattle.utoipa_base.specs.Writing.{write};
 ghost use Rattle.utoipa_check.specs.Dropped.{dropped};
 ghost use Rattle.utoipa_findings.specs.Findings as specs;
 ghost use Rattle.utoipa_findings.specs.Lines.{lines_of as lines_text};
-ghost use Rattle.utoipa_findings.specs.Sources.{IsSourceOf, IsTreeOf};
+ghost use Rattle.utoipa_findings.specs.Sources.{IsFileOf, IsTreeOf, file_of};
 ghost use Rattle.utoipa_findings.specs.Told.{Tells, IsRefused, loss_lines};
 ghost use Rattle.utoipa_findings.specs.Views.{all_findings};
 ghost use Rattle.utoipa_tables.specs.Tables.{kind_of};
@@ -58,7 +58,7 @@ fn put_lost<'a, T: Tree>(
     put_places(places, found)
 }
 
-/// The lines of what is lost of a file's text, which has this tree, when the document that was read of it is written again. Fails where memory
+/// The lines of what is lost of a file's text, which has this tree, as it is looked at, when the document that was read of it is written again. Fails where memory
 /// runs out.
 fn document_loss_lines<T: Tree>(
     alloc: Global,
@@ -95,13 +95,13 @@ pub fn document_with_losses<T: Tree>(
     lost: &mut String,
 ) -> Result<T, Refusal>
     requires { kind_of kind ≡ T.kind }
-    ensures ok { IfOk result (λ document. IsSourceOf T.kind (T.doc document) source.entry.bytes.now) }
+    ensures ok { IfOk result (λ document. IsFileOf T.kind (T.doc document) (file_of source.entry)) }
     ensures told { OnOk result (string_bytes lost.new
-        ≡ string_bytes lost.old ++ loss_lines (kind_of kind) source.entry.name.now source.entry.bytes.now) }
-    ensures err { IfErr result (Tells (IsRefused (kind_of kind) source.entry.name.now source.entry.bytes.now)) }
+        ≡ string_bytes lost.old ++ loss_lines (kind_of kind) (file_of source.entry)) }
+    ensures err { IfErr result (Tells (IsRefused (kind_of kind) (file_of source.entry))) }
 {
     let text = text_of(alloc, source)?;
-    let tree = tree_of_text(alloc, source.name, text)?;
+    let tree = tree_of_text(alloc, kind, source, text)?;
     let document = document_of_tree::<T>(alloc, kind, source.name, &tree)?;
     let lines = document_loss_lines(alloc, kind, source, text, &tree, &document)?;
     lost.push_str(lines.as_str())?;
@@ -115,9 +115,9 @@ pub fn document_with_losses<T: Tree>(
 pub fn lost_of<T: Tree>(alloc: Global, kind: Kind, source: Source<'_>) -> Result<String, Refusal>
     requires { kind_of kind ≡ T.kind }
     ensures ok { IfOk result
-        (λ lines. string_bytes lines ≡ loss_lines (kind_of kind) source.entry.name.now source.entry.bytes.now) }
-    ensures document { OnOk result ((t : Data) × IsTreeOf (kind_of kind) t source.entry.bytes.now) }
-    ensures err { IfErr result (Tells (IsRefused (kind_of kind) source.entry.name.now source.entry.bytes.now)) }
+        (λ lines. string_bytes lines ≡ loss_lines (kind_of kind) (file_of source.entry)) }
+    ensures document { OnOk result ((t : Data) × IsTreeOf (kind_of kind) t (file_of source.entry)) }
+    ensures err { IfErr result (Tells (IsRefused (kind_of kind) (file_of source.entry))) }
 {
     let mut lines = String::new(alloc);
     let _document = document_with_losses::<T>(alloc, kind, source, &mut lines)?;

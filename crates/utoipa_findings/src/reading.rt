@@ -33,35 +33,6 @@ fn refusal_lines(alloc: Global, kind: Kind, name: &str, tree: &Value) -> Result<
     lines_of(alloc, name, &found)
 }
 
-/// The lines that tell why a text is no document of a kind. Fails where memory runs out.
-fn why_refused(alloc: Global, kind: Kind, name: &str, text: &str) -> Result<String, AllocError>
-    requires { IsUtf8 text.now }
-    ensures { IfOk result
-        (λ lines. IsTold (specs.refusals (kind_of kind)) name.now text.now (sources.tree_of text.now) (string_bytes lines)) }
-{
-    match tree_of_text(alloc, name, text) {
-        Ok(tree) => refusal_lines(alloc, kind, name, &tree),
-        Err(Refusal::Told(line)) => Ok(line),
-        Err(Refusal::Memory) => Err(AllocError),
-    }
-}
-
-/// The document of a type that a file is. The kind is that of the type.
-///
-/// Fails where the file is none, with a line for each place that does not fit, or for the text that is no JSON; and where memory runs out.
-pub fn document_of<T: Tree>(alloc: Global, kind: Kind, source: Source<'_>) -> Result<T, Refusal>
-    requires { kind_of kind ≡ T.kind }
-    ensures ok { IfOk result (λ document. sources.IsSourceOf T.kind (T.doc document) source.entry.bytes.now) }
-    ensures err { IfErr result (Tells (IsRefused (kind_of kind) source.entry.name.now source.entry.bytes.now)) }
-{
-    let text = text_of(alloc, source)?;
-    match T::from_json_text(alloc, text) {
-        Ok(document) => Ok(document),
-        Err(ReadFault::Memory) => Err(Refusal::Memory),
-        Err(_) => Err(Refusal::Told(why_refused(alloc, kind, source.name, text)?)),
-    }
-}
-
 /// The document of a type that a tree is. The kind is that of the type. Fails where it is none, with a line for each place that does not fit, and
 /// where memory runs out.
 pub(crate) fn document_of_tree<T: Tree>(
@@ -95,14 +66,28 @@ fn refuse_misfits(alloc: Global, kind: Kind, name: &str, tree: &Value) -> Result
     Err(Refusal::Told(lines))
 }
 
-/// The tree of a file that is a document of a kind.
+/// The document of a type that a file is. The kind is that of the type.
+///
+/// Fails where the file is none, with a line for each place that does not fit, or for the text that is no JSON; and where memory runs out.
+pub fn document_of<T: Tree>(alloc: Global, kind: Kind, source: Source<'_>) -> Result<T, Refusal>
+    requires { kind_of kind ≡ T.kind }
+    ensures ok { IfOk result
+        (λ document. sources.IsFileOf T.kind (T.doc document) (sources.file_of source.entry)) }
+    ensures err { IfErr result (Tells (IsRefused (kind_of kind) (sources.file_of source.entry))) }
+{
+    let tree = tree_of(alloc, kind, source)?;
+    document_of_tree(alloc, kind, source.name, &tree)
+}
+
+/// The tree of a file that is a document of a kind, as the file is looked at.
 ///
 /// Fails where the file is none, with a line for each place that does not fit, or for the text that is no JSON; and where memory runs out.
 pub fn tree_of_document(alloc: Global, kind: Kind, source: Source<'_>) -> Result<Value, Refusal>
-    ensures ok { IfOk result (λ tree. sources.IsTreeOf (kind_of kind) (view tree) source.entry.bytes.now) }
-    ensures err { IfErr result (Tells (IsRefused (kind_of kind) source.entry.name.now source.entry.bytes.now)) }
+    ensures ok { IfOk result
+        (λ tree. sources.IsTreeOf (kind_of kind) (view tree) (sources.file_of source.entry)) }
+    ensures err { IfErr result (Tells (IsRefused (kind_of kind) (sources.file_of source.entry))) }
 {
-    let tree = tree_of(alloc, source)?;
+    let tree = tree_of(alloc, kind, source)?;
     refuse_misfits(alloc, kind, source.name, &tree)?;
     Ok(tree)
 }

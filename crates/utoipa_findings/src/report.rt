@@ -6,6 +6,7 @@ ghost use Rattle.utoipa_check.specs.DroppedViews.{all_dropped};
 ghost use Rattle.utoipa_check.specs.References.{references};
 ghost use Rattle.utoipa_findings.specs.Findings as specs;
 ghost use Rattle.utoipa_findings.specs.Lines.{lines_of as lines_text};
+ghost use Rattle.utoipa_findings.specs.Sources.{file_of};
 ghost use Rattle.utoipa_findings.specs.Told.{IsChecked, IsTreeless, Tells};
 ghost use Rattle.utoipa_findings.specs.Views.{all_findings};
 ghost use Rattle.utoipa_tables.specs.Tables.{kind_of};
@@ -145,7 +146,7 @@ pub fn findings<'a, T: Tree>(
     Ok(found)
 }
 
-/// The lines of what is found in a text, which has this tree. Fails where memory runs out.
+/// The lines of what is found in a text, which has this tree, as it is looked at. Fails where memory runs out.
 fn text_lines<T: Tree>(
     alloc: Global,
     kind: Kind,
@@ -168,11 +169,11 @@ fn text_lines<T: Tree>(
 fn file_lines<T: Tree>(alloc: Global, kind: Kind, source: Source<'_>) -> Result<String, Refusal>
     requires { kind_of kind ≡ T.kind }
     ensures ok { IfOk result
-        (λ lines. IsChecked (kind_of kind) source.entry.name.now source.entry.bytes.now (string_bytes lines)) }
-    ensures err { IfErr result (Tells (IsTreeless source.entry.name.now source.entry.bytes.now)) }
+        (λ lines. IsChecked (kind_of kind) (file_of source.entry) (string_bytes lines)) }
+    ensures err { IfErr result (Tells (IsTreeless (file_of source.entry))) }
 {
     let text = text_of(alloc, source)?;
-    let tree = tree_of_text(alloc, source.name, text)?;
+    let tree = tree_of_text(alloc, kind, source, text)?;
     Ok(text_lines::<T>(alloc, kind, source.name, text, &tree)?)
 }
 
@@ -181,7 +182,7 @@ fn file_lines<T: Tree>(alloc: Global, kind: Kind, source: Source<'_>) -> Result<
 pub fn check<T: Tree>(alloc: Global, kind: Kind, source: Source<'_>) -> Result<String, AllocError>
     requires { kind_of kind ≡ T.kind }
     ensures { IfOk result
-        (λ lines. IsChecked (kind_of kind) source.entry.name.now source.entry.bytes.now (string_bytes lines)) }
+        (λ lines. IsChecked (kind_of kind) (file_of source.entry) (string_bytes lines)) }
 {
     match file_lines::<T>(alloc, kind, source) {
         Ok(lines) => Ok(lines),

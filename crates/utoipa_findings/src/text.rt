@@ -5,13 +5,16 @@ ghost use Rattle.serde_json.specs.Read.{read as read_text};
 ghost use Rattle.serde_json.specs.View.{view};
 ghost use Rattle.utoipa_findings.specs.Sources as specs;
 ghost use Rattle.utoipa_findings.specs.Told.{Tells, IsTreeless};
+ghost use Rattle.utoipa_tables.specs.Tables.{kind_of};
 
 use crate::refusal::Refusal;
-use crate::source::Source;
+use crate::source::{Form, Source};
 use serde_json::Value;
 use simdutf8::compat::from_utf8;
 use std::alloc::{AllocError, Global};
+use utoipa_adapt::{Rule, adapt, adaptations, upgrade};
 use utoipa_check::Shown;
+use utoipa_tables::Kind;
 
 /// Whether a byte is white space of JSON.
 fn is_blank(byte: u8) -> bool
@@ -92,7 +95,7 @@ fn no_utf8_line(alloc: Global, source: Source<'_>, at: usize) -> Result<String, 
 /// The bytes of a file as a text. Fails where they are no UTF-8, and where memory runs out.
 pub(crate) fn text_of(alloc: Global, source: Source<'_>) -> Result<&str, Refusal>
     ensures ok { IfOk result (λ text. (text.now ≡ source.entry.bytes.now) × IsUtf8 source.entry.bytes.now) }
-    ensures err { IfErr result (Tells (IsTreeless source.entry.name.now source.entry.bytes.now)) }
+    ensures err { IfErr result (Tells (IsTreeless (specs.file_of source.entry))) }
 {
     match from_utf8(source.bytes) {
         Ok(text) => Ok(text),
@@ -103,27 +106,90 @@ pub(crate) fn text_of(alloc: Global, source: Source<'_>) -> Result<&str, Refusal
     }
 }
 
-/// The tree of a text. Fails where it is no JSON, and where memory runs out.
-pub(crate) fn tree_of_text(alloc: Global, name: &str, text: &str) -> Result<Value, Refusal>
-    requires { IsUtf8 text.now }
+/// The tree of a file's text, as it stands there. Fails where it is no JSON, and where memory runs out.
+fn parsed(alloc: Global, source: Source<'_>, text: &str) -> Result<Value, Refusal>
+    requires utf8 { IsUtf8 text.now }
+    requires same { text.now ≡ source.bytes.now }
     ensures ok { IfOk result (λ tree. read_text text.now ≡ Some (view tree)) }
-    ensures err { IfErr result (Tells (IsTreeless name.now text.now)) }
+    ensures err { IfErr result (Tells (IsTreeless (specs.file_of source.entry))) }
 {
     match Value::from_str(alloc, text) {
         Ok(tree) => Ok(tree),
         Err(error) if error.is_memory() => Err(Refusal::Memory),
         Err(error) => {
-            let line = no_json_line(alloc, name, text, error.line(), error.column())?;
+            let line = no_json_line(alloc, source.name, text, error.line(), error.column())?;
             Err(Refusal::Told(line))
         }
     }
 }
 
-/// The tree of a file. Fails where the bytes are no UTF-8 or no JSON, and where memory runs out.
-pub(crate) fn tree_of(alloc: Global, source: Source<'_>) -> Result<Value, Refusal>
-    ensures ok { IfOk result (λ tree. specs.tree_of source.entry.bytes.now ≡ Some (view tree)) }
-    ensures err { IfErr result (Tells (IsTreeless source.entry.name.now source.entry.bytes.now)) }
+/// A tree, adapted to be read as a document of a kind. It stays where it is, if nothing of it has to be. Fails where memory runs out.
+fn adapted(alloc: Global, kind: Kind, tree: Value) -> Result<Value, AllocError>
+    ensures { IfOk result (λ v. view v ≡ specs.seen Form.Adapted (kind_of kind) (view tree)) }
+{
+    let is_plain = adaptations(alloc, kind, &tree)?.is_empty();
+    if is_plain {
+        return Ok(tree);
+    }
+    adapt(alloc, kind, tree)
+}
+
+/// Whether a tree is that of an OpenAPI 3.0 document, by its version.
+fn is_of_3_0(tree: &Value) -> bool
+    ensures { result ≡ specs.is_of_3_0 (view tree.now) }
+{
+    match tree.get("openapi") {
+        Some(version) => Rule::VersionOf30.applies(version),
+        None => false,
+    }
+}
+
+/// A tree that is to be a document of a kind, upgraded to one of 3.1 if it is of 3.0. Fails where memory runs out.
+fn upgraded(alloc: Global, kind: Kind, tree: Value) -> Result<Value, AllocError>
+    ensures { IfOk result (λ v. view v ≡ specs.upgraded_from_3_0 (kind_of kind) (view tree)) }
+{
+    if is_of_3_0(&tree) {
+        upgrade(alloc, kind, tree)
+    } else {
+        Ok(tree)
+    }
+}
+
+/// A tree that is to be a document of a kind, as it is looked at. Fails where memory runs out.
+fn seen(alloc: Global, form: Form, kind: Kind, tree: Value) -> Result<Value, AllocError>
+    ensures { IfOk result (λ v. view v ≡ specs.seen form (kind_of kind) (view tree)) }
+{
+    match form {
+        Form::AsIs => Ok(tree),
+        Form::Adapted => adapted(alloc, kind, tree),
+        Form::Upgraded => adapted(alloc, kind, upgraded(alloc, kind, tree)?),
+    }
+}
+
+/// The tree of a file's text that is to be a document of a kind, as it is looked at. Fails where it is no JSON, and where memory runs out.
+pub(crate) fn tree_of_text(
+    alloc: Global,
+    kind: Kind,
+    source: Source<'_>,
+    text: &str,
+) -> Result<Value, Refusal>
+    requires utf8 { IsUtf8 text.now }
+    requires same { text.now ≡ source.bytes.now }
+    ensures ok { IfOk result
+        (λ tree. specs.file_tree (kind_of kind) (specs.file_of source.entry) ≡ Some (view tree)) }
+    ensures err { IfErr result (Tells (IsTreeless (specs.file_of source.entry))) }
+{
+    let tree = parsed(alloc, source, text)?;
+    Ok(seen(alloc, source.form, kind, tree)?)
+}
+
+/// The tree of a file that is to be a document of a kind, as it is looked at. Fails where the bytes are no UTF-8 or no JSON, and where memory runs
+/// out.
+pub(crate) fn tree_of(alloc: Global, kind: Kind, source: Source<'_>) -> Result<Value, Refusal>
+    ensures ok { IfOk result
+        (λ tree. specs.file_tree (kind_of kind) (specs.file_of source.entry) ≡ Some (view tree)) }
+    ensures err { IfErr result (Tells (IsTreeless (specs.file_of source.entry))) }
 {
     let text = text_of(alloc, source)?;
-    tree_of_text(alloc, source.name, text)
+    tree_of_text(alloc, kind, source, text)
 }

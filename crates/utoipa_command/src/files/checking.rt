@@ -1,7 +1,7 @@
 //! The answer of `check`.
 ghost use Rattle.std.specs.Prelude.{◌≡◌, ◌++◌, IfOk, IfErr, OnOk, string_bytes};
-ghost use Rattle.utoipa_command.specs.Files.{document_kind, file_losses, file_of};
-ghost use Rattle.utoipa_findings.specs.Sources.{IsSourceOf};
+ghost use Rattle.utoipa_command.specs.Files.{document_kind, file_losses};
+ghost use Rattle.utoipa_findings.specs.Sources.{IsFileOf, file_of};
 ghost use Rattle.utoipa_findings.specs.Told.{Tells, IsChecked, IsRefused};
 ghost use Rattle.utoipa.specs.OpenApi.{openapi_doc};
 
@@ -17,9 +17,9 @@ pub(crate) fn document(
     source: Source<'_>,
     lost: &mut String,
 ) -> Result<OpenApi, Refusal>
-    ensures ok { IfOk result (λ document. IsSourceOf document_kind (openapi_doc document) source.entry.bytes.now) }
+    ensures ok { IfOk result (λ document. IsFileOf document_kind (openapi_doc document) (file_of source.entry)) }
     ensures told { OnOk result (string_bytes lost.new ≡ string_bytes lost.old ++ file_losses (file_of source.entry)) }
-    ensures err { IfErr result (Tells (IsRefused document_kind source.entry.name.now source.entry.bytes.now)) }
+    ensures err { IfErr result (Tells (IsRefused document_kind (file_of source.entry))) }
 {
     document_with_losses::<OpenApi>(alloc, Kind::Named(ObjectType::OpenApiObject), source, lost)
 }
@@ -29,7 +29,7 @@ pub(crate) fn document(
 /// tells that the file is no JSON. None where nothing is found. Fails where memory runs out.
 pub fn check(alloc: Global, source: Source<'_>) -> Result<String, AllocError>
     ensures { IfOk result
-        (λ lines. IsChecked document_kind source.entry.name.now source.entry.bytes.now (string_bytes lines)) }
+        (λ lines. IsChecked document_kind (file_of source.entry) (string_bytes lines)) }
 {
     utoipa_findings::check::<OpenApi>(alloc, Kind::Named(ObjectType::OpenApiObject), source)
 }

@@ -1,6 +1,7 @@
 //! The answer of `format`.
 ghost use Rattle.std.specs.Prelude.{◌≡◌, ◌⊎◌, [], true, IfOk, IfErr, string_bytes};
-ghost use Rattle.utoipa_command.specs.Files.{IsFormatted, IsLossy, document_kind, file_of};
+ghost use Rattle.utoipa_command.specs.Files.{IsFormatted, IsLossy, document_kind};
+ghost use Rattle.utoipa_findings.specs.Sources.{file_of};
 ghost use Rattle.utoipa_findings.specs.Told.{Tells, IsRefused};
 
 use crate::files::checking::document;
@@ -24,7 +25,7 @@ pub fn format(
     ensures ok { IfOk result
         (λ written. IsFormatted layout (file_of source.entry) (string_bytes written.text) (string_bytes written.lost)) }
     ensures kept { IfOk result (λ written. strict ≡ true → string_bytes written.lost ≡ []) }
-    ensures err { IfErr result (Tells (λ told. IsRefused document_kind source.entry.name.now source.entry.bytes.now told
+    ensures err { IfErr result (Tells (λ told. IsRefused document_kind (file_of source.entry) told
         ⊎ ((strict ≡ true) × IsLossy (file_of source.entry) told))) }
 {
     let mut lost = String::new(alloc);

@@ -1,6 +1,7 @@
 //! The answer of `merge`.
 ghost use Rattle.std.specs.Prelude.{◌≡◌, ◌⊎◌, ◌++◌, ◌<◌, [], true, length, map, Some, IfOk, IfErr, OnOk, string_bytes};
-ghost use Rattle.utoipa_command.specs.Files.{AreSourcesOf, AreLossy, AreRefused, IsMerge, dropped_lines, file_of, losses_of};
+ghost use Rattle.utoipa_command.specs.Files.{AreSourcesOf, AreLossy, AreRefused, IsMerge, dropped_lines, losses_of};
+ghost use Rattle.utoipa_findings.specs.Sources.{file_of};
 ghost use Rattle.utoipa_findings.specs.Told.{Tells};
 ghost use Rattle.utoipa_findings.specs.Views.{names_of};
 ghost use Rattle.utoipa.specs.OpenApi.{openapi_doc};

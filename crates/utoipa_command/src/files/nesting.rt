@@ -1,7 +1,7 @@
 //! The answer of `nest`.
 ghost use Rattle.std.specs.Prelude.{◌≡◌, ◌⊎◌, ◌∷◌, ◌++◌, [], true, Ok, IfOk, IfErr, OnOk, string_bytes};
-ghost use Rattle.utoipa_command.specs.Files.{File, AreLossyNested, AreRefused, IsNest, document_kind, dropped_by_nesting, file_losses, file_of};
-ghost use Rattle.utoipa_findings.specs.Sources.{IsSourceOf};
+ghost use Rattle.utoipa_command.specs.Files.{AreLossyNested, AreRefused, IsNest, document_kind, dropped_by_nesting, file_losses};
+ghost use Rattle.utoipa_findings.specs.Sources.{File, IsFileOf, file_of};
 ghost use Rattle.utoipa_findings.specs.Told.{Tells, IsRefused};
 ghost use Rattle.utoipa_findings.specs.Views.{names_of};
 ghost use Rattle.utoipa.specs.OpenApi.{openapi_doc};
@@ -29,7 +29,7 @@ pub(crate) fn or_memory<T: Drop>(made: Result<T, MergeFault>) -> Result<T, Refus
 
 /// The refusal of the first of two files, which is told in these lines, with what is to be told of the second.
 fn refused_with(alloc: Global, lines: String, nested: Source<'_>) -> Refusal
-    ensures { (own : File) → IsRefused document_kind own.0 own.1 (string_bytes lines)
+    ensures { (own : File) → IsRefused document_kind own (string_bytes lines)
         → Tells (AreRefused (own ∷ file_of nested.entry ∷ [])) result }
 {
     let mut lines = lines;
@@ -51,8 +51,8 @@ fn both_documents(
     nested: Source<'_>,
     lost: &mut String,
 ) -> Result<(OpenApi, OpenApi), Refusal>
-    ensures own { IfOk result (λ both. IsSourceOf document_kind (openapi_doc both.0) own.entry.bytes.now) }
-    ensures nested { IfOk result (λ both. IsSourceOf document_kind (openapi_doc both.1) nested.entry.bytes.now) }
+    ensures own { IfOk result (λ both. IsFileOf document_kind (openapi_doc both.0) (file_of own.entry)) }
+    ensures nested { IfOk result (λ both. IsFileOf document_kind (openapi_doc both.1) (file_of nested.entry)) }
     ensures told { OnOk result (string_bytes lost.new
         ≡ (string_bytes lost.old ++ file_losses (file_of own.entry)) ++ file_losses (file_of nested.entry)) }
     ensures err { IfErr result (Tells (AreRefused (file_of own.entry ∷ file_of nested.entry ∷ []))) }

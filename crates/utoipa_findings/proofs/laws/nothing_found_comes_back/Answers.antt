@@ -1,6 +1,8 @@
 use Rattle.serde_json.specs.View.{view}
 use Rattle.utoipa_findings.proofs.ComesBack.{comes_back, some_comes_back, reads_again}
 use Rattle.utoipa_findings.proofs.InText.{text_comes_back, unlost_text}
+use Rattle.utoipa_findings.specs.Sources.{seen}
+use Rattle.utoipa_findings.proofs.SortedAdapted.{seen_sorted}
 use Rattle.utoipa_findings.proofs.SortedWritten.{text_tree_sorted, written_sorted}
 use Rattle.utoipa_findings.proofs.laws.nothing_found_comes_back.Goals as goal
 
@@ -14,7 +16,7 @@ pub returns-clause-unlost : goal.returns-clause-unlost
 returns-clause-unlost g c = unlost_text
 
 pub returns-clause-ordered : goal.returns-clause-ordered
-returns-clause-ordered g c k text t d has reads = let sorted = text_tree_sorted text t has in (sorted, written_sorted k t d sorted reads)
+returns-clause-ordered g c k x t d has reads = let sorted = seen_sorted x.2 k t (text_tree_sorted x.1 t has) in (sorted, written_sorted k (seen x.2 k t) d sorted reads)
 
 pub returns-clause-value : goal.returns-clause-value
 returns-clause-value g c = comes_back g.T.Documented.kind (view c.args.tree.now) (g.T.Documented.doc c.args.value.now)

@@ -1,10 +1,10 @@
-use Rattle.std.proofs.Common.{◌∙◌, None, ap, sym, true≢false}
-use Rattle.utoipa_findings.specs.Sources.{text_line}
-use Rattle.utoipa_findings.proofs.Texts.{tree_by_text, said_of_text}
+use Rattle.std.proofs.Common.{◌∙◌, Some, ap, sym}
+use Rattle.serde_json.specs.View.{view}
+use Rattle.utoipa_tables.specs.Tables.{kind_of}
+use Rattle.utoipa_findings.specs.Sources.{file_of}
+use Rattle.utoipa_findings.proofs.Texts.{seen_by_text}
 use Rattle.utoipa_findings.proofs.text.tree_of_text.Goals as goal
 
-pub returns-in_ok-line-in-Err-2-clause-err : goal.returns-in_ok-line-in-Err-2-clause-err
-returns-in_ok-line-in-Err-2-clause-err c =
-    let none = c.in-Err.ensures.err (λ memory. true≢false (sym (c.is_memory.ensures.1 memory) ∙ c.if-is_memory.false)) in
-    let said = ap (text_line c.args.name.now c.line.result c.column.result) (sym (said_of_text c.args.text.now c.requires)) in
-    (tree_by_text c.args.text.now None c.requires none, (c.line.result, c.column.result, c.in_ok-line-in-Err-2.ensures ∙ said))
+pub returns-clause-ok : goal.returns-clause-ok
+returns-clause-ok c =
+    seen_by_text (kind_of c.args.kind) (file_of c.args.source) c.args.text.now (view c.in_ok-tree.tree) c.requires.same c.requires.utf8 c.in_ok-tree.ensures.ok ∙ ap Some (sym c.in_ok-seen.ensures)

@@ -1,10 +1,11 @@
 use Rattle.std.proofs.Common.{◌≡◌, ◌∙◌, ◌++◌, [], inl, inr, get_or, refl, sym, ap, string_bytes}
 use Rattle.std.proofs.lemmas.List.{append-nil}
+use Rattle.utoipa_findings.specs.Sources.{file_of}
 use Rattle.utoipa_findings.specs.Told.{IsRefused}
 use Rattle.utoipa_findings.proofs.ComesBack.{second_none}
 use Rattle.utoipa_findings.proofs.NothingTold.{refused_some}
 use Rattle.utoipa.specs.OpenApi.{openapi_doc}
-use Rattle.utoipa_command.specs.Files.{document_kind, file_of}
+use Rattle.utoipa_command.specs.Files.{document_kind}
 use Rattle.utoipa_command.proofs.EachFile.{sources_put, losses_put, told_put, told_lines}
 use Rattle.utoipa_command.proofs.files.merging.documents_of.Goals as goal
 use Rattle.utoipa_command.proofs.files.merging.documents_of.Goals.{in-Ok+in_ok-push-in-Ok, in-Err-Told+in_ok-push_str-in-Err-Told}
@@ -31,12 +32,12 @@ loop-source-preserved c =
           let told = w.in-Err-Told in
           let lines = string_bytes told.lines in
           let file = file_of (get_or sources i _) in
-          let why : IsRefused document_kind file.0 file.1 lines = told_lines (IsRefused document_kind file.0 file.1) told.field-0 told.lines told.ensures.err told.field-0-is in
+          let why : IsRefused document_kind file lines = told_lines (IsRefused document_kind file) told.field-0 told.lines told.ensures.err told.field-0-is in
           let joined : string_bytes c.match-document.refused ≡ so_far ++ lines =
           ap string_bytes w.refused-is ∙ w.in_ok-push_str-in-Err-Told.ensures.bytes ∙ ap (λ x. so_far ++ x) w.as_str.ensures.value
           in
           record {
-            kept = λ none. absurd (refused_some document_kind file.0 file.1 lines why (second_none so_far lines (sym joined ∙ none)));
+            kept = λ none. absurd (refused_some document_kind file lines why (second_none so_far lines (sym joined ∙ none)));
             told = told_put sources i _ so_far lines _ within c.loop-source.invariant.told (inl why) joined;
           }
     ]

@@ -1,6 +1,7 @@
 use Rattle.std.proofs.Common.{◌≡◌, [], map, take, string_bytes}
 use Rattle.utoipa.specs.OpenApi.{openapi_doc}
-use Rattle.utoipa_command.specs.Files.{AreTold, file_of}
+use Rattle.utoipa_findings.specs.Sources.{file_of}
+use Rattle.utoipa_command.specs.Files.{AreTold}
 use Rattle.utoipa_command.proofs.EachFile.{AreKept}
 use Rattle.utoipa_command.proofs.files.merging.documents_of.Given as goal
 

@@ -1,10 +1,11 @@
 use Rattle.std.proofs.Common.{◌≡◌, ◌∙◌, ◌⊎◌, true, ◌++◌, List, ℕ, map, ap, refl, subst, string_bytes}
 use Rattle.utoipa_base.proofs.Results.{if_is}
 use Rattle.utoipa_findings.specs.declared.refusal.Refusal.TheVariants.{Memory}
+use Rattle.utoipa_findings.specs.Sources.{file_of}
 use Rattle.utoipa_findings.proofs.Fitting.{passed_on}
 use Rattle.utoipa_merging.specs.Merged.{IsMerged}
 use Rattle.utoipa.specs.OpenApi.{openapi_doc, openapi_of_kind}
-use Rattle.utoipa_command.specs.Files.{file_of, AreRefused, AreLossy}
+use Rattle.utoipa_command.specs.Files.{AreRefused, AreLossy}
 use Rattle.utoipa_command.proofs.Documents.{if_ok}
 use Rattle.utoipa_command.proofs.EachFile.{lossy_told, lost_is, memory_told}
 use Rattle.utoipa_command.proofs.FileDocuments.{merged, all_of_kind, ok_is, err_is, passed_beside}

@@ -1,5 +1,5 @@
 use Rattle.utoipa.specs.OpenApi.{openapi_doc}
-use Rattle.utoipa_command.specs.Files.{file_of}
+use Rattle.utoipa_findings.specs.Sources.{file_of}
 use Rattle.utoipa_command.proofs.EachFile.{second_refused_told}
 use Rattle.utoipa_command.proofs.FileDocuments.{passed_beside}
 use Rattle.utoipa_command.proofs.files.nesting.both_documents.Goals as goal

@@ -1,9 +1,9 @@
 use Rattle.std.proofs.Common.{◌≡◌, ◌∙◌, ◌⊎◌, true, ◌∷◌, [], ap, refl, sym, subst, string_bytes}
 use Rattle.utoipa.specs.OpenApi.{openapi_doc, openapi_of_kind}
-use Rattle.utoipa_findings.specs.Sources.{IsSourceOf}
+use Rattle.utoipa_findings.specs.Sources.{IsFileOf, file_of}
 use Rattle.utoipa_findings.specs.declared.refusal.Refusal.TheVariants.{Memory}
 use Rattle.utoipa_findings.proofs.Fitting.{passed_on}
-use Rattle.utoipa_command.specs.Files.{document_kind, file_of, lost_by_nesting, AreRefused, AreLossyNested}
+use Rattle.utoipa_command.specs.Files.{document_kind, lost_by_nesting, AreRefused, AreLossyNested}
 use Rattle.utoipa_command.proofs.Documents.{if_ok}
 use Rattle.utoipa_command.proofs.EachFile.{lossy_nested_told, nested_lost_is, memory_told}
 use Rattle.utoipa_command.proofs.FileDocuments.{nested, ok_is, err_is, passed_beside}
@@ -34,8 +34,8 @@ returns-clause-ok c =
     let second = c.in_ok-documents-3.ensures.ok in
     let both = c.in_ok-documents-3.documents in
     let same = second.0 ∙ first.0 in
-    let reads = subst (λ d. IsSourceOf document_kind (openapi_doc d.0) own.1) (sym same) read.own in
-    let reads_inner = subst (λ d. IsSourceOf document_kind (openapi_doc d.1) inner.1) (sym same) read.nested in
+    let reads = subst (λ d. IsFileOf document_kind (openapi_doc d.0) own) (sym same) read.own in
+    let reads_inner = subst (λ d. IsFileOf document_kind (openapi_doc d.1) inner) (sym same) read.nested in
     let made = c.in_ok-document.ensures.ok in
     let nests = ok_is _ c.nest.result c.in_ok-document.document c.nest.ensures.ok made in
     let ordered = ok_is _ c.nest.result c.in_ok-document.document c.nest.ensures.ordered made in
