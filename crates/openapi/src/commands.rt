@@ -275,7 +275,14 @@ fn nest_sources(
         // No call is without both.
         return Ok(ExitCode::from(2));
     };
-    let made = files::nest(rt.alloc(), layout(words), is_strict(words), base, *own, *nested);
+    let made = files::nest(
+        rt.alloc(),
+        layout(words),
+        is_strict(words),
+        base,
+        *own,
+        *nested,
+    );
     answer_document(rt, words, sources, made)
 }
 

@@ -8,6 +8,7 @@ use utoipa_command::files::Source;
 
 // What the lines of a file of another version say, one of both.
 const OTHER_VERSION: &str = "/openapi: ";
+
 const NO_VERSION: &str = "`openapi` is required";
 
 /// Tells of a file, of which these lines were told, that it is of a version that is not read, if it is.

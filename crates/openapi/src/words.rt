@@ -142,9 +142,5 @@ fn with_output<'a>(alloc: Global, command: Command<'a>) -> Result<Command<'a>, A
         .help(
             "Accept that this is lost, and don't tell it: a member of the document as info, a beginning of JSON Pointers as /paths/~1pets, or unknown-members, which the model does not keep",
         );
-    command
-        .arg(output)?
-        .arg(compact)?
-        .arg(strict)?
-        .arg(allowed)
+    command.arg(output)?.arg(compact)?.arg(strict)?.arg(allowed)
 }
