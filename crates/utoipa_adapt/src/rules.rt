@@ -27,8 +27,8 @@ pub enum RuleSet {
     Upgrade,
 }
 
-/// A rule that gives a tree another form, of which the standard says that it means the same. Sections are those of OpenAPI 3.1; for a rule of the
-/// upgrade those of 3.0.3.
+/// A rule that gives a tree another form, of which the standard says that it means the same. Two go by what writers mean instead: `NullInEnum` and
+/// `NullableReference`. Sections are those of OpenAPI 3.1; for a rule of the upgrade those of 3.0.3.
 #[derive(Clone, Copy, Debug, Drop, PartialEq, Eq)]
 pub enum Rule {
     /// An OpenAPI Object without `paths` gets an empty one (OpenAPI 3.1, section 4.8.1).
