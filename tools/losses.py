@@ -4,7 +4,7 @@
 usage: tools/losses.py [--seed N] [--calls N] [PROGRAM]     the program that ./build makes, where none is named
 
 The documents come from the tables of docs/FORMAT.md, and some are damaged: a member is changed, or a name stands twice in an object. Each call runs
-with `--strict`. Where that writes a text, nothing may be told, each name of a file may stand once in its object, and each value has to stand in the
+with `--as-is`, for what is adapted stands in another form, and with `--strict`. Where that writes a text, nothing may be told, each name of a file may stand once in its object, and each value has to stand in the
 text: at its place, behind the base if it is at a nested path, or, of servers, security requirements and tags, as one of the items. Where it does not,
 the same call without `--strict` has to tell the same lines, and of `format` these have to name each value that the text lacks, and no other. Files
 and texts are read by Python's parser, not by the port's. Ends with status 1 at the first call that is not so, and prints it.
@@ -157,13 +157,13 @@ def check_call(program, words, files):
         for name, file in zip(names, files):
             with open(os.path.join(folder, name), "wb") as it:
                 it.write(file)
-        strict = run(program, words + ["--strict", "--compact", *names], folder)
+        strict = run(program, words + ["--as-is", "--strict", "--compact", *names], folder)
         if strict.returncode == 0:
             check_kept(words, files, strict)
             return "kept"
         if strict.returncode != 1 or strict.stdout:
             raise NotSo("a strict call ends with status %d" % strict.returncode)
-        return "told" if check_told(words, files, strict, run(program, words + ["--compact", *names], folder)) else "refused"
+        return "told" if check_told(words, files, strict, run(program, words + ["--as-is", "--compact", *names], folder)) else "refused"
 
 
 def main():
