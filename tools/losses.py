@@ -4,10 +4,11 @@
 usage: tools/losses.py [--seed N] [--calls N] [PROGRAM]     the program that ./build makes, where none is named
 
 The documents come from the tables of docs/FORMAT.md, and some are damaged: a member is changed, or a name stands twice in an object. Each call runs
-with `--as-is`, for what is adapted stands in another form, and with `--strict`. Where that writes a text, nothing may be told, each name of a file may stand once in its object, and each value has to stand in the
-text: at its place, behind the base if it is at a nested path, or, of servers, security requirements and tags, as one of the items. Where it does not,
-the same call without `--strict` has to tell the same lines, and of `format` these have to name each value that the text lacks, and no other. Files
-and texts are read by Python's parser, not by the port's. Ends with status 1 at the first call that is not so, and prints it.
+with `--as-is`, for what is adapted stands in another form, and with `--strict`. Where that writes a text, nothing may be told, each name of a file may
+stand once in its object, and each value has to stand in the text: at its place, behind the base if it is at a nested path, or, of servers, security
+requirements and tags, as one of the items. Where it does not, the same call without `--strict` has to tell the same lines, and of `format` these have
+to name each value that the text lacks, and no other. Files and texts are read by Python's parser, not by the port's. Ends with status 1 at the first
+call that is not so, and prints it.
 """
 import argparse
 import json
