@@ -161,6 +161,8 @@ CASES = [
     ("changed_meanings\t", 3, ["no JSON"]),
     ("adaptations ", 1, ["no JSON"]),
     ("adapted ", 1, ["no JSON"]),
+    ("upgrades ", 1, ["no JSON"]),
+    ("upgraded ", 1, ["no JSON"]),
     ("between\t", 6, ["no tree"]),
     ("dropped ", 3, ["refused: memory", "no tree"]),
     # Read a text, and tell where it is refused, what is found in it, and what it loses.
